@@ -1,0 +1,4 @@
+pub mod Counting
+pub mod Ranking
+pub mod Paths
+pub mod Limits

@@ -1,0 +1,4 @@
+pub mod Choices
+pub mod Sums
+pub mod Counts
+pub mod Numberings

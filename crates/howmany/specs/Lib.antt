@@ -1,0 +1,4 @@
+pub mod Choose
+pub mod Sum
+pub mod HowMany
+pub mod Numbering

@@ -1,0 +1,12 @@
+pub mod Tables
+pub mod Examples
+pub mod Letters
+pub mod Sheared
+pub mod Signed
+pub mod Corners
+pub mod Slopes
+pub mod ArchPaths
+pub mod Demand3
+pub mod Hence
+pub mod Recurrences
+pub mod Widths
