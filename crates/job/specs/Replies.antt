@@ -1,0 +1,40 @@
+-- What each case of an answer says: document 01's refusal number, or the value.
+--
+--   Reply A        a value, or a refusal number
+--   reply a        an answer of document 01 as a reply
+--   countSays, widthSays, numberSays, buildSays    the reply that each case of an enum stands for
+use Prim.Native.Nat.{ℕ}
+use Rattle.rules.specs.Refusals.{Answer, refusalNumber}
+use Rattle.rules.specs.Refusals.Answer.{accepted, refused}
+use Rattle.job.specs.declared.Counted.{Counted}
+use Rattle.job.specs.declared.Counted.the-variants.{Count, Refused as CountRefused}
+use Rattle.job.specs.declared.Sized.{Sized}
+use Rattle.job.specs.declared.Sized.the-variants.{Width, Refused as WidthRefused}
+use Rattle.job.specs.declared.Numbered.{Numbered}
+use Rattle.job.specs.declared.Numbered.the-variants.{Number, Refused as NumberRefused}
+use Rattle.job.specs.declared.Built.{Built}
+use Rattle.job.specs.declared.Built.the-variants.{Length, Refused as BuildRefused}
+
+pub data Reply : Type 0 where
+  value : ℕ → Reply
+  refusal : ℕ → Reply
+
+abbrev pub reply : Answer ℕ → Reply
+reply (accepted a) = value a
+reply (refused r) = refusal (refusalNumber r)
+
+abbrev pub countSays : Counted → Reply
+countSays (Count c) = value c
+countSays (CountRefused r) = refusal r
+
+abbrev pub widthSays : Sized → Reply
+widthSays (Width w) = value w
+widthSays (WidthRefused r) = refusal r
+
+abbrev pub numberSays : Numbered → Reply
+numberSays (Number r) = value r
+numberSays (NumberRefused r) = refusal r
+
+abbrev pub buildSays : Built → Reply
+buildSays (Length l) = value l
+buildSays (BuildRefused r) = refusal r

@@ -1,0 +1,342 @@
+// Jobs made from their block of 20 bytes (document 01, "Job block"), and the answers that every call gives.
+ghost use mathlib.Core.Path.{_≡_};
+ghost use Prim.Native.Nat.{ℕ, _+_, _*_, _%_, _≤_, _<_};
+ghost use lib.ListN.{length, drop, getD};
+ghost use Rattle.rules.specs.Blocks.{zeros, formed, sized, sizedCorner, sizedDirected, small, used, isIn, twins};
+ghost use Rattle.job.specs.Made.{raised, pairOf, inRange, Twenty, Pairs, madeOf, heldBy, refusedBy};
+
+// A step's letter: `N`, `E` and `D` of families 1 to 5, and `1`, the first digit of families 6 and 7.
+pub struct Step {
+    pub letter: u8,
+}
+
+impl Step {
+    pub const NORTH: u8 = b'N';
+
+    pub const EAST: u8 = b'E';
+
+    pub const DIAGONAL: u8 = b'D';
+
+    pub const FIRST: u8 = b'1';
+}
+
+// A job: the bytes of its block, with m and each b raised by 128, so that no number is below 0.
+pub struct Job {
+    pub family: u8,
+    pub n: u8,
+    pub m: u8,
+    pub k: u8,
+    pub a: [u8; 8],
+    pub b: [u8; 8],
+}
+
+// A job, or the refusal number; 0 if none.
+pub struct Made {
+    pub refusal: u8,
+    pub job: Job,
+}
+
+// A count, or a refusal number, never both.
+pub enum Counted {
+    Count(u64),
+    Refused(u8),
+}
+
+// The width of a job, or a refusal number.
+pub enum Sized {
+    Width(u8),
+    Refused(u8),
+}
+
+// The number of an edge, or a refusal number.
+pub enum Numbered {
+    Number(u64),
+    Refused(u8),
+}
+
+// The length of what was written, or a refusal number.
+pub enum Built {
+    Length(usize),
+    Refused(u8),
+}
+
+// A byte raised by 128: what is signed there is unsigned here.
+fn raise(x: u8) -> u8
+    ensures { λ r. ⌜ r ≡ raised x ⌝ }
+{
+    ((x as u16 + 128) % 256) as u8
+}
+
+fn wide(x: u8) -> usize
+    ensures { λ r. ⌜ r ≡ x ⌝ }
+{
+    x as usize
+}
+
+// Whether every byte is zero.
+fn all_zero(s: &[u8]) -> bool
+    ensures { λ r. ⌜ r ≡ zeros (now (s .entry)) ⌝ }
+{
+    let mut i: usize = 0;
+    while i < s.len() {
+        if s[i] != 0 {
+            return false;
+        }
+        i += 1;
+    }
+    true
+}
+
+// Refusal 1 isn't given: 20 bytes, family 1 to 7, unused bytes zero.
+fn is_formed(block: &[u8]) -> bool
+    ensures { λ r. ⌜ r ≡ formed (now (block .entry)) ⌝ }
+{
+    if block.len() != Job::BLOCK {
+        return false;
+    }
+    let family = block[0];
+    if family < 1 {
+        return false;
+    }
+    if Job::FAMILIES < family {
+        return false;
+    }
+    if family <= Job::CORNERS {
+        return all_zero(&block[3..]);
+    }
+    let k = wide(block[3]);
+    if 8 <= k {
+        return true;
+    }
+    let from = 4 + 2 * k;
+    all_zero(&block[from..])
+}
+
+// Each used a is 1 to 3, each used b -3 to 3.
+fn is_small(block: &[u8], k: usize) -> bool
+    requires { ⌜ Pairs (now block) k ⌝ }
+    ensures { λ r. ⌜ r ≡ small (used (now (block .entry))) ⌝ }
+{
+    let mut i: usize = 0;
+    while i < k {
+        let a = block[4 + 2 * i];
+        let b = raise(block[5 + 2 * i]);
+        if !in_range(a, b) {
+            return false;
+        }
+        i += 1;
+    }
+    true
+}
+
+// a is 1 to 3, and b, raised, is -3 to 3.
+fn in_range(a: u8, b: u8) -> bool
+    ensures { λ r. ⌜ r ≡ inRange a b ⌝ }
+{
+    if a < 1 {
+        return false;
+    }
+    if Job::LONGEST < a {
+        return false;
+    }
+    if b < Job::FALLS {
+        return false;
+    }
+    b <= Job::RISES
+}
+
+// Families 1 to 5: n and m are 0 to 64, and m = n in 2, 4 and 5.
+fn is_sized_corner(block: &[u8]) -> bool
+    requires { ⌜ Twenty (now block) ⌝ }
+    ensures { λ r. ⌜ r ≡ sizedCorner (now (block .entry)) ⌝ }
+{
+    let n = block[1];
+    let m = raise(block[2]);
+    if Job::FARTHEST < n {
+        return false;
+    }
+    if m < Job::LEVEL {
+        return false;
+    }
+    if Job::LEVEL + Job::FARTHEST < m {
+        return false;
+    }
+    let family = block[0];
+    if family == 2 {
+        return m == Job::LEVEL + n;
+    }
+    if family == 4 {
+        return m == Job::LEVEL + n;
+    }
+    if family == 5 {
+        return m == Job::LEVEL + n;
+    }
+    true
+}
+
+// Families 6 and 7: n 0 to 32, m -96 to 96, k 1 to 8, the used pairs small.
+fn is_sized_directed(block: &[u8]) -> bool
+    requires { ⌜ Twenty (now block) ⌝ }
+    ensures { λ r. ⌜ r ≡ sizedDirected (now (block .entry)) ⌝ }
+{
+    if Job::COLUMNS < block[1] {
+        return false;
+    }
+    let m = raise(block[2]);
+    if m < Job::LOWEST {
+        return false;
+    }
+    if Job::HIGHEST < m {
+        return false;
+    }
+    let k = wide(block[3]);
+    if k < 1 {
+        return false;
+    }
+    if 8 < k {
+        return false;
+    }
+    is_small(block, k)
+}
+
+// Refusal 2 isn't given: every value in its family's range, and m = n where that is asked.
+fn is_sized(block: &[u8]) -> bool
+    requires { ⌜ Twenty (now block) ⌝ }
+    ensures { λ r. ⌜ r ≡ sized (now (block .entry)) ⌝ }
+{
+    if block[0] <= Job::CORNERS {
+        return is_sized_corner(block);
+    }
+    is_sized_directed(block)
+}
+
+// Whether a pair from place j on equals pair i.
+fn is_in(block: &[u8], k: usize, i: usize) -> bool
+    requires { ⌜ Pairs (now block) k × (i < k) ⌝ }
+    ensures { λ r. ⌜ r ≡ isIn (pairOf (now (block .entry)) i) (drop (i + 1) (used (now (block .entry)))) ⌝ }
+{
+    let a = block[4 + 2 * i];
+    let b = block[5 + 2 * i];
+    let mut j = i + 1;
+    while j < k {
+        if block[4 + 2 * j] == a {
+            if block[5 + 2 * j] == b {
+                return true;
+            }
+        }
+        j += 1;
+    }
+    false
+}
+
+// Refusal 3: two used pairs are equal.
+fn has_twins(block: &[u8], k: usize) -> bool
+    requires { ⌜ Pairs (now block) k ⌝ }
+    ensures { λ r. ⌜ r ≡ twins (used (now (block .entry))) ⌝ }
+{
+    let mut i: usize = 0;
+    while i < k {
+        if is_in(block, k, i) {
+            return true;
+        }
+        i += 1;
+    }
+    false
+}
+
+impl Job {
+    // The bytes of a block; the last family, and the last that has no pairs.
+    pub const BLOCK: usize = 20;
+
+    pub const FAMILIES: u8 = 7;
+
+    pub const CORNERS: u8 = 5;
+    // Ranges of families 1 to 5.
+    pub const FARTHEST: u8 = 64;
+    // Ranges of families 6 and 7; m and b are raised by 128.
+    pub const COLUMNS: u8 = 32;
+
+    pub const LOWEST: u8 = 32;
+
+    pub const HIGHEST: u8 = 224;
+
+    pub const STEPS: u8 = 8;
+
+    pub const LONGEST: u8 = 3;
+
+    pub const FALLS: u8 = 125;
+
+    pub const RISES: u8 = 131;
+    // 0, raised.
+    pub const LEVEL: u8 = 128;
+
+    // "Every job is made from its block of 20 bytes": the job, or refusal 1, 2 or 3.
+    pub fn of(block: &[u8]) -> Made
+        ensures { λ r. ⌜ r ≡ madeOf (now (block .entry)) ⌝ }
+    {
+        if !is_formed(block) {
+            return Job::refused(1);
+        }
+        if !is_sized(block) {
+            return Job::refused(2);
+        }
+        let k = wide(block[3]);
+        if has_twins(block, k) {
+            return Job::refused(3);
+        }
+        Made {
+            refusal: 0,
+            job: Job::held(block),
+        }
+    }
+
+    fn held(block: &[u8]) -> Job
+        requires { ⌜ Twenty (now block) ⌝ }
+        ensures { λ r. ⌜ r ≡ heldBy (now (block .entry)) ⌝ }
+    {
+        let a = [
+            block[4],
+            block[6],
+            block[8],
+            block[10],
+            block[12],
+            block[14],
+            block[16],
+            block[18],
+        ];
+        let b = [
+            raise(block[5]),
+            raise(block[7]),
+            raise(block[9]),
+            raise(block[11]),
+            raise(block[13]),
+            raise(block[15]),
+            raise(block[17]),
+            raise(block[19]),
+        ];
+        Job {
+            family: block[0],
+            n: block[1],
+            m: raise(block[2]),
+            k: block[3],
+            a,
+            b,
+        }
+    }
+
+    fn refused(no: u8) -> Made
+        ensures { λ r. ⌜ r ≡ refusedBy no ⌝ }
+    {
+        Made {
+            refusal: no,
+            job: Job {
+                family: 0,
+                n: 0,
+                m: 0,
+                k: 0,
+                a: [0u8; 8],
+                b: [0u8; 8],
+            },
+        }
+    }
+}
