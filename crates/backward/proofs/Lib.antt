@@ -1,3 +1,4 @@
 pub mod Backward
 pub mod Walks
 pub mod Grids
+pub mod Alike

@@ -4,13 +4,13 @@
 --   used-next, used-end                    the used pairs from a place on
 --   signed-is, signed-one                  a byte as a signed number, and raised
 --   between-is, between-zero, eq-height    the tests of signed numbers on raised ones
---   small-more, small-not, small-end       one pair more of `small`
+--   small-more, small-not, small-end       one pair more of `small`; small-range: each pair then
 --   in-found, in-other-a, in-other-b, in-end    one pair more of `isIn`
 --   twins-next, twins-end                  one pair more of `twins`
 --   rest, zeros-past                       the end of a block
 --   formed-is, corner-is, directed-is, sized-is    the tests of form and size on raised numbers
 use Prim.Native.Nat.{ℕ, zero, suc, _+_, _-_, _*_, _%_, _≤_, _<_}
-use mathlib.Core.Path.{_≡_, refl, ap, ap₂, sym, _∙_}
+use mathlib.Core.Path.{_≡_, refl, ap, ap₂, sym, _∙_, subst}
 use mathlib.Core.List.{List, [], _∷_}
 use mathlib.Core.Bool.{Bool, true, false, not, _&&_, _||_, and-false}
 use native.Mathlib.Decide.{decLt, ℕ-discrete}
@@ -28,7 +28,7 @@ use Rattle.rules.specs.Shear.{Is}
 use Rattle.rules.proofs.Letters.{eqℤ-eq, eqℤ-refl}
 use Rattle.rules.proofs.Signed.{is-up, is-fence}
 use Rattle.howmany.specs.Choose.{pick}
-use Rattle.howmany.proofs.Choices.{is-true, is-false}
+use Rattle.howmany.proofs.Choices.{and-left, and-right, is-true, is-false}
 use Rattle.job.specs.Made.{raised, pairOf, inRange, Pairs}
 
 pub zeros-more : (s : List ℕ) (i : ℕ) → i < length s → getD s i 0 ≡ 0 → zeros (drop i s) ≡ zeros (drop (i + 1) s)
@@ -63,7 +63,7 @@ pairs-long (a ∷ []) (suc k) h = absurd (omega arith)
 pairs-long (a ∷ b ∷ l) (suc k) h = omega (arith, pairs-long l k (omega arith))
 
 module _ (b : List ℕ) (k : ℕ) (p : Pairs b k) where
-  used-length : length (used b) ≡ k
+  pub used-length : length (used b) ≡ k
   unfolding used
   used-length = omega (arith, p .many, length-take (getD b 3 0) (pairsIn (drop 4 b)), pairs-long (drop 4 b) k (omega (arith, length-drop 4 b, p .twenty, p .few)))
 
@@ -167,6 +167,20 @@ module _ (b : List ℕ) (k : ℕ) (p : Pairs b k) where
   pub small-end : (i : ℕ) → i ≡ k → small (drop i (used b)) ≡ true
   unfolding small
   small-end i e = ap small (used-end b k p i e)
+
+  -- pairs that are small are in range, each of them
+  module _ (e : small (used b) ≡ true) (bytes : (j : ℕ) → getD b j 0 < 256) where
+    both : (i : ℕ) → i < k → small (drop i (used b)) ≡ true → T (inRange (getD b (4 + 2 * i) 0) (raised (getD b (5 + 2 * i) 0)) && small (drop (i + 1) (used b)))
+    both i l h = subst T (sym h ∙ small-next i l (bytes (5 + 2 * i))) tt
+
+    small-from : (i : ℕ) → i ≤ k → small (drop i (used b)) ≡ true
+    small-from zero l = e
+    small-from (suc i) l =
+        rw (add-one i) at (is-true (small (drop (i + 1) (used b)))
+          (and-right (inRange (getD b (4 + 2 * i) 0) (raised (getD b (5 + 2 * i) 0))) (small (drop (i + 1) (used b))) (both i l (small-from i (omega arith)))))
+
+    pub small-range : (i : ℕ) → i < k → T (inRange (getD b (4 + 2 * i) 0) (raised (getD b (5 + 2 * i) 0)))
+    small-range i l = and-left (inRange (getD b (4 + 2 * i) 0) (raised (getD b (5 + 2 * i) 0))) (small (drop (i + 1) (used b))) (both i l (small-from i (omega arith)))
 
   in-next : (q : Pair) (j : ℕ) → j < k → isIn q (drop j (used b)) ≡ ((eqb (q .a) (getD b (4 + 2 * j) 0) && eqℤ (q .b) (signed (getD b (5 + 2 * j) 0))) || isIn q (drop (j + 1) (used b)))
   unfolding isIn

@@ -4,6 +4,7 @@
 --   Back           a last step undone on both sides, or counted 0 on both
 --   Shear          what must be kept: At says which of the grid's spots stands for which point
 --   some-end       the end of a valid edge has a spot
+--   walks-word, number-word, edge-word    what is valid, its number, and the edge of a number, by the grid
 --   sheared        then the family's edges are numbered as document 01 says
 use mathlib.Core.Path.{_≡_, refl, sym, ap, ap₂, _∙_, subst}
 use mathlib.Core.Logic.{_⊎_, inl, inr}
@@ -320,11 +321,45 @@ module _ (J : Job) (G : Steps) (F : ℕ → ℤ → ℕ) (At : Point → Spot �
     word-back : (u : List ℕ) → T (valid (grid G) u (enter (grid G) (way G) q)) → map pl (map glyph (reverse u)) ≡ reverse u
     word-back u t = letters-back (reverse u) (record { x = 0; y = 0 }) q (edge-of-word u t)
 
+    letters : (e : List ℕ) → T (walks J origin e) → Lettered (reverse e)
+    unfolding Lettered
+    letters e t = lettered-turned e [] (lettered e origin t) tt
+
+    -- the three laws that code relies on: what is valid, its number, and the edge of a number
+
+    pub walks-word : (e : List ℕ) → walks J origin e ≡ valid (grid G) (reverse (map (λ b. place b (stepsOf J)) e)) (enter (grid G) (way G) q)
+    unfolding Valid word
+    walks-word e = go (walks J origin e) refl (valid (grid G) (reverse (map pl e)) (enter (grid G) (way G) q)) refl
+      where
+        go : (a : Bool) → walks J origin e ≡ a → (b : Bool) → valid (grid G) (reverse (map pl e)) (enter (grid G) (way G) q) ≡ b → a ≡ b
+        go true p true r = refl
+        go true p false r = absurd (subst T r (to-word e (subst T (sym p) tt)))
+        go false p true r =
+            let w = edge-valid (grid G) (grid-lawful G (H .onward)) (way G) (grid-turned G (H .onward)) (map pl e) q .1 (subst T (sym r) tt) in
+            absurd (subst T p (off-walk e origin (record { x = 0; y = 0 }) q (H .start) z w))
+        go false p false r = refl
+
+    pub number-word : (e : List ℕ) → T (walks J origin e)
+        → numberBack (stepsOf J) F (endOf J) (reverse e) ≡ rank (grid G) (reverse (map (λ b. place b (stepsOf J)) e)) (enter (grid G) (way G) q)
+    unfolding Valid word
+    number-word e t =
+        let w = to-word e t in
+        let s : enter (grid G) (way G) q ≡ some q = only-true (inside G q) q (opened (reverse (map pl e)) (inside G q) q w) in
+        rw (s, map-reverse pl e) (numbers (reverse e) (endOf J) q z (rw (s, map-reverse pl e) at w))
+
+    pub edge-word : (f r : ℕ) → q .x ≤ f → r < paths G q
+        → reverse (edgeBack (stepsOf J) F f (endOf J) r) ≡ map (λ i. at (stepsOf J) i .letter) (reverse (unrank (grid G) (enter (grid G) (way G) q) r))
+    unfolding paths Spells
+    edge-word f r l h =
+        let t : T (inside G q) = counted (inside G q) q (omega arith) in
+        let s : enter (grid G) (way G) q ≡ some q = only-true (inside G q) q t in
+        rw s (ap reverse (spell f (endOf J) q r z l t (rw s at h)) ∙ map-reverse glyph (unrank (grid G) (some q) r))
+
     pub sheared : (number : List ℕ → ℕ) (edge : ℕ → List ℕ) (f : ℕ) → q .x ≤ f
         → ((e : List ℕ) → number e ≡ numberBack (stepsOf J) F (endOf J) (reverse e))
         → ((r : ℕ) → edge r ≡ reverse (edgeBack (stepsOf J) F f (endOf J) r))
         → Numbering (Valid J) (λ e g. Decides (reverse e) (reverse g)) (paths G q) number edge
-    unfolding Valid word paths Lettered Spells
+    unfolding Valid word paths
     sheared number edge f l is-number is-edge =
         carried {old = word} {new = λ u. map glyph (reverse u)} (record {
           forth = λ u t. off-walk (map glyph (reverse u)) origin (record { x = 0; y = 0 }) q (H .start) z (rw (word-back u t) (edge-of-word u t));
@@ -333,22 +368,7 @@ module _ (J : Job) (G : Steps) (F : ℕ → ℤ → ℕ) (At : Point → Spot �
           new-old = λ e t. ap (map glyph) (reverse-reverse (map pl e)) ∙ bytes-back e (lettered e origin t);
           up = λ b c s t d. rw (map-reverse pl b, map-reverse pl c) (order-on (reverse b) (reverse c) (letters b s) (letters c t) d);
           down = λ b c s t d. order-off (reverse b) (reverse c) (letters b s) (letters c t) (rw (map-reverse pl b, map-reverse pl c) at d);
-          places = λ e t. is-number e ∙ place-of e t;
-          makes = λ r h. is-edge r ∙ ap reverse (make r h) ∙ map-reverse glyph (unrank (grid G) (enter (grid G) (way G) q) r);
+          places = λ e t. is-number e ∙ number-word e t;
+          makes = λ r h. is-edge r ∙ edge-word f r l h;
         })
         (backward (grid G) (grid-lawful G (H .onward)) (enter (grid G) (way G) q))
-      where
-        letters : (e : List ℕ) → T (walks J origin e) → Lettered (reverse e)
-        letters e t = lettered-turned e [] (lettered e origin t) tt
-
-        place-of : (e : List ℕ) → T (walks J origin e) → numberBack (stepsOf J) F (endOf J) (reverse e) ≡ rank (grid G) (reverse (map pl e)) (enter (grid G) (way G) q)
-        place-of e t =
-            let w = to-word e t in
-            let s : enter (grid G) (way G) q ≡ some q = only-true (inside G q) q (opened (reverse (map pl e)) (inside G q) q w) in
-            rw (s, map-reverse pl e) (numbers (reverse e) (endOf J) q z (rw (s, map-reverse pl e) at w))
-
-        make : (r : ℕ) → r < count (grid G) (enter (grid G) (way G) q) → edgeBack (stepsOf J) F f (endOf J) r ≡ map glyph (unrank (grid G) (enter (grid G) (way G) q) r)
-        make r h =
-            let t : T (inside G q) = counted (inside G q) q (omega arith) in
-            let s : enter (grid G) (way G) q ≡ some q = only-true (inside G q) q t in
-            rw s (spell f (endOf J) q r z l t (rw s at h))

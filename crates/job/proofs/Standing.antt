@@ -1,0 +1,245 @@
+-- What the job maker hands out stands for the job of its block. Assumes nothing.
+--
+--   Kept b j         the block's job isn't refused, and j stands for it
+--   Told b r         the block is refused with the number r
+--   made-kept        where no refusal is told, the job is kept
+--   made-told        where one is told, it is the block's
+use Prim.Native.Nat.{ℕ, zero, suc, _+_, _*_, _≤_, _<_}
+use mathlib.Core.Path.{_≡_, refl, ap, sym, _∙_, subst}
+use mathlib.Core.List.{List, [], _∷_}
+use mathlib.Core.Bool.{Bool, true, false, not, _&&_, _||_}
+use native.Mathlib.Omega.{arith}
+use lib.Dec.{T, eqb, leb, eqb→eq, leb→le}
+use lib.IntN.{ℤ, pos, negsuc}
+use lib.ListN.{length, take, drop, getD}
+use lib.Seq.{getD-drop}
+use borrow.Author.Tests.{le-leb, lt-leb, eqb-true, eqb-false}
+use Rattle.howmany.specs.Choose.{pick}
+use Rattle.howmany.proofs.Choices.{and-left, and-right, is-true, is-false}
+use Rattle.rules.specs.Jobs as rules
+use Rattle.rules.specs.Jobs.{Pair}
+use Rattle.rules.specs.Jobs.Job.{north-east, dyck, delannoy, schroder, motzkin, directed}
+use Rattle.rules.specs.Points.{height}
+use Rattle.rules.specs.Counts.{pairAt}
+use Rattle.rules.specs.Shear.{Is}
+use Rattle.rules.specs.Refusals.{Answer, Refusal, check, refusalNumber}
+use Rattle.rules.specs.Refusals.Refusal.{form, size, twin}
+use Rattle.rules.specs.Refusals.Answer.{accepted, refused}
+use Rattle.rules.specs.Blocks.{familyOf, nOf, mOf, kOf, zeros, formed, sized, sizedCorner, sizedDirected, small, used, square, twins, jobIn, jobAnswer}
+use Rattle.job.specs.declared.Job.{Job}
+use Rattle.job.specs.declared.Made.{Made}
+use Rattle.job.specs.Made.{raised, pairOf, inRange, Pairs, heldBy, madeOf, makes}
+use Rattle.job.specs.Stands.{Level, Directed, Stands}
+use Rattle.job.specs.Stands.Stands.{as-north-east, as-dyck, as-delannoy, as-schroder, as-motzkin, as-open, as-fenced}
+use Rattle.job.proofs.Blocks.{formed-is, sized-is, corner-is, directed-is, signed-is, used-next, used-length, small-range}
+use Rattle.job.proofs.Makes.{pairs-of}
+
+-- the bytes of a block
+pub Bytes : List ℕ → Type 0
+Bytes b = (i : ℕ) → getD b i 0 < 256
+
+pub record Kept (b : List ℕ) (j : Job) : Type 0 where
+  pub job : rules.Job
+  pub answer : jobAnswer b ≡ accepted job
+  pub stands : Stands j job
+
+pub record Told (b : List ℕ) (r : ℕ) : Type 0 where
+  pub refusal : Refusal
+  pub answer : jobAnswer b ≡ refused refusal
+  pub number : r ≡ refusalNumber refusal
+
+holds : {b : Bool} → b ≡ true → T b
+holds e = subst T (sym e) tt
+
+-- case by case over eight places
+eight : (P : ℕ → Type 0) → P 0 → P 1 → P 2 → P 3 → P 4 → P 5 → P 6 → P 7 → (i : ℕ) → i < 8 → P i
+eight P a b c d e f g h zero l = a
+eight P a b c d e f g h (suc zero) l = b
+eight P a b c d e f g h (suc (suc zero)) l = c
+eight P a b c d e f g h (suc (suc (suc zero))) l = d
+eight P a b c d e f g h (suc (suc (suc (suc zero)))) l = e
+eight P a b c d e f g h (suc (suc (suc (suc (suc zero))))) l = f
+eight P a b c d e f g h (suc (suc (suc (suc (suc (suc zero)))))) l = g
+eight P a b c d e f g h (suc (suc (suc (suc (suc (suc (suc zero))))))) l = h
+eight P a b c d e f g h (suc (suc (suc (suc (suc (suc (suc (suc i)))))))) l = absurd (omega arith)
+
+height-is : (z : ℤ) (p : ℕ) → Is z p 128 → 128 ≤ p → height z + 128 ≡ p
+height-is (pos a) p e l = e
+height-is (negsuc a) p e l = absurd (omega arith)
+
+first-at : (ps : List Pair) (i : ℕ) (q : Pair) {rest : List Pair} → drop i ps ≡ q ∷ rest → pairAt ps i ≡ q
+first-at ps i q e = sym (getD-zero ps i) ∙ ap (λ (l : List Pair). getD l 0 (record { a = 0; b = pos 0 })) e
+  where
+    getD-zero : (ps : List Pair) (i : ℕ) → getD (drop i ps) 0 (record { a = 0; b = pos 0 }) ≡ getD ps i (record { a = 0; b = pos 0 })
+    getD-zero ps i = let n : i + 0 ≡ i = omega arith in getD-drop i ps 0 (record { a = 0; b = pos 0 }) ∙ ap (λ (j : ℕ). getD ps j (record { a = 0; b = pos 0 })) n
+
+record Ranged (a b : ℕ) : Type 0 where
+  a-least : 1 ≤ a
+  a-most : a ≤ 3
+  b-least : 125 ≤ b
+  b-most : b ≤ 131
+
+ranged : (a b : ℕ) → T (inRange a b) → Ranged a b
+ranged a b t =
+    let u = and-right (leb 1 a) (leb a 3 && (leb 125 b && leb b 131)) t in
+    let v = and-right (leb a 3) (leb 125 b && leb b 131) u in
+    record {
+      a-least = leb→le 1 a (and-left (leb 1 a) (leb a 3 && (leb 125 b && leb b 131)) t);
+      a-most = leb→le a 3 (and-left (leb a 3) (leb 125 b && leb b 131) u);
+      b-least = leb→le 125 b (and-left (leb 125 b) (leb b 131) v);
+      b-most = leb→le b 131 (and-right (leb 125 b) (leb b 131) v) }
+
+-- ---- what the tests say of a block
+
+module _ (b : List ℕ) (bytes : Bytes b) (f : formed b ≡ true) (s : sized b ≡ true) where
+  byte : (i : ℕ) → getD b i 0 < 256
+  unfolding Bytes
+  byte i = bytes i
+
+  m-is : Is (mOf b) (raised (getD b 2 0)) 128
+  m-is = signed-is (getD b 2 0) (byte 2)
+
+  record Cornered : Type 0 where
+    n-most : nOf b ≤ 64
+    m-least : 128 ≤ raised (getD b 2 0)
+    m-most : raised (getD b 2 0) ≤ 192
+
+  cornered : familyOf b ≤ 5 → Cornered
+  cornered l =
+      let m = raised (getD b 2 0) in
+      let q = not (square (familyOf b)) || eqb m (128 + nOf b) in
+      let t : T (leb (nOf b) 64 && ((leb 128 m && leb m 192) && q)) =
+          holds (sym (corner-is b m refl (byte 2)) ∙ sym (sized-is b ∙ ap (λ (x : Bool). pick x (sizedCorner b) (sizedDirected b)) (le-leb (familyOf b) 5 l)) ∙ s) in
+      let u = and-left (leb 128 m && leb m 192) q (and-right (leb (nOf b) 64) ((leb 128 m && leb m 192) && q) t) in
+      record {
+        n-most = leb→le (nOf b) 64 (and-left (leb (nOf b) 64) ((leb 128 m && leb m 192) && q) t);
+        m-least = leb→le 128 m (and-left (leb 128 m) (leb m 192) u);
+        m-most = leb→le m 192 (and-right (leb 128 m) (leb m 192) u) }
+
+  record Wide : Type 0 where
+    n-most : nOf b ≤ 32
+    m-least : 32 ≤ raised (getD b 2 0)
+    m-most : raised (getD b 2 0) ≤ 224
+    some : 1 ≤ kOf b
+    few : kOf b ≤ 8
+    small-ones : small (used b) ≡ true
+
+  wide : 5 < familyOf b → Wide
+  wide l =
+      let m = raised (getD b 2 0) in
+      let r = leb 1 (kOf b) && (leb (kOf b) 8 && small (used b)) in
+      let t : T (leb (nOf b) 32 && ((leb 32 m && leb m 224) && r)) =
+          holds (sym (directed-is b m refl (byte 2)) ∙ sym (sized-is b ∙ ap (λ (x : Bool). pick x (sizedCorner b) (sizedDirected b)) (lt-leb (familyOf b) 5 l)) ∙ s) in
+      let u = and-right (leb (nOf b) 32) ((leb 32 m && leb m 224) && r) t in
+      let h = and-left (leb 32 m && leb m 224) r u in
+      let g = and-right (leb 32 m && leb m 224) r u in
+      let w = and-right (leb 1 (kOf b)) (leb (kOf b) 8 && small (used b)) g in
+      record {
+        n-most = leb→le (nOf b) 32 (and-left (leb (nOf b) 32) ((leb 32 m && leb m 224) && r) t);
+        m-least = leb→le 32 m (and-left (leb 32 m) (leb m 224) h);
+        m-most = leb→le m 224 (and-right (leb 32 m) (leb m 224) h);
+        some = leb→le 1 (kOf b) (and-left (leb 1 (kOf b)) (leb (kOf b) 8 && small (used b)) g);
+        few = leb→le (kOf b) 8 (and-left (leb (kOf b) 8) (small (used b)) w);
+        small-ones = is-true (small (used b)) (and-right (leb (kOf b) 8) (small (used b)) w) }
+
+  -- ---- the job that is held
+
+  level : familyOf b ≤ 5 → Level (heldBy b) (height (mOf b))
+  unfolding heldBy
+  level l =
+      let c = cornered l in
+      let e : height (mOf b) + 128 ≡ raised (getD b 2 0) = height-is (mOf b) (raised (getD b 2 0)) m-is (c .m-least) in
+      record { n-most = c .n-most; m-most = omega (arith, c .m-most); m-is = omega arith }
+
+  held-a : (i : ℕ) → i < 8 → getD (heldBy b .a) i 0 ≡ getD b (4 + 2 * i) 0
+  unfolding heldBy
+  held-a = eight (λ i. getD (heldBy b .a) i 0 ≡ getD b (4 + 2 * i) 0) refl refl refl refl refl refl refl refl
+
+  held-b : (i : ℕ) → i < 8 → getD (heldBy b .b) i 0 ≡ raised (getD b (5 + 2 * i) 0)
+  unfolding heldBy
+  held-b = eight (λ i. getD (heldBy b .b) i 0 ≡ raised (getD b (5 + 2 * i) 0)) refl refl refl refl refl refl refl refl
+
+  pair-at : (i : ℕ) → i < kOf b → Wide → pairAt (used b) i ≡ pairOf b i
+  pair-at i l w = first-at (used b) i (pairOf b i) (used-next b (kOf b) (pairs-of b (kOf b) refl f s) i l)
+
+  directed-held : 5 < familyOf b → Directed (heldBy b) (mOf b) (used b)
+  unfolding heldBy
+  directed-held l =
+      let w = wide l in
+      let p : Pairs b (kOf b) = pairs-of b (kOf b) refl f s in
+      let r : (i : ℕ) → i < kOf b → T (inRange (getD b (4 + 2 * i) 0) (raised (getD b (5 + 2 * i) 0))) = small-range b (kOf b) p (w .small-ones) byte in
+      record {
+        n-most = w .n-most;
+        m-is = m-is;
+        m-least = w .m-least;
+        m-most = w .m-most;
+        some = w .some;
+        few = w .few;
+        many = used-length b (kOf b) p;
+        a-is = λ i h. held-a i (omega (arith, w .few)) ∙ sym (ap (λ (q : Pair). q .a) (pair-at i h w));
+        a-least = λ i h. omega (arith, held-a i (omega (arith, w .few)), ranged (getD b (4 + 2 * i) 0) (raised (getD b (5 + 2 * i) 0)) (r i h) .a-least);
+        a-most = λ i h. omega (arith, held-a i (omega (arith, w .few)), ranged (getD b (4 + 2 * i) 0) (raised (getD b (5 + 2 * i) 0)) (r i h) .a-most);
+        b-is = λ i h. rw (held-b i (omega (arith, w .few)), pair-at i h w) (signed-is (getD b (5 + 2 * i) 0) (byte (5 + 2 * i)));
+        b-least = λ i h. omega (arith, held-b i (omega (arith, w .few)), ranged (getD b (4 + 2 * i) 0) (raised (getD b (5 + 2 * i) 0)) (r i h) .b-least);
+        b-most = λ i h. omega (arith, held-b i (omega (arith, w .few)), ranged (getD b (4 + 2 * i) 0) (raised (getD b (5 + 2 * i) 0)) (r i h) .b-most) }
+
+  family-range : (1 ≤ familyOf b) × (familyOf b ≤ 7)
+  family-range =
+      let z = zeros (pick (leb (familyOf b) 5) (drop 3 b) (drop (4 + 2 * kOf b) b)) in
+      let t : T (eqb (length b) 20 && (leb 1 (familyOf b) && (leb (familyOf b) 7 && z))) = holds (sym (formed-is b) ∙ f) in
+      let u = and-right (eqb (length b) 20) (leb 1 (familyOf b) && (leb (familyOf b) 7 && z)) t in
+      (
+        leb→le 1 (familyOf b) (and-left (leb 1 (familyOf b)) (leb (familyOf b) 7 && z) u),
+        leb→le (familyOf b) 7 (and-left (leb (familyOf b) 7) z (and-right (leb 1 (familyOf b)) (leb (familyOf b) 7 && z) u)),
+      )
+
+  directed-stands : 5 < familyOf b → (x : Bool) → eqb (familyOf b) 7 ≡ x → Stands (heldBy b) (directed x (nOf b) (mOf b) (used b))
+  unfolding heldBy
+  directed-stands l true e = as-fenced (eqb-true (familyOf b) 7 e) (directed-held l)
+  directed-stands l false e = as-open (omega (arith, family-range, eqb-false (familyOf b) 7 e)) (directed-held l)
+
+  held-stands : Stands (heldBy b) (jobIn b)
+  unfolding heldBy jobIn
+  held-stands = go (eqb (familyOf b) 1) refl (eqb (familyOf b) 2) refl (eqb (familyOf b) 3) refl (eqb (familyOf b) 4) refl (eqb (familyOf b) 5) refl
+    where
+      w : ℕ
+      w = familyOf b
+      go : (p : Bool) → eqb (familyOf b) 1 ≡ p → (q : Bool) → eqb (familyOf b) 2 ≡ q → (r : Bool) → eqb (familyOf b) 3 ≡ r → (t : Bool) → eqb (familyOf b) 4 ≡ t → (u : Bool) → eqb (familyOf b) 5 ≡ u
+          → Stands (heldBy b) (pick p (north-east (nOf b) (height (mOf b))) (pick q (dyck (nOf b)) (pick r (delannoy (nOf b) (height (mOf b))) (pick t (schroder (nOf b))
+            (pick u (motzkin (nOf b)) (directed (eqb (familyOf b) 7) (nOf b) (mOf b) (used b)))))))
+      go true p q x r y t z u v = let e = eqb-true w 1 p in as-north-east e (level (omega arith))
+      go false p true x r y t z u v = let e = eqb-true w 2 x in as-dyck e (cornered (omega arith) .n-most)
+      go false p false x true y t z u v = let e = eqb-true w 3 y in as-delannoy e (level (omega arith))
+      go false p false x false y true z u v = let e = eqb-true w 4 z in as-schroder e (cornered (omega arith) .n-most)
+      go false p false x false y false z true v = let e = eqb-true w 5 v in as-motzkin e (cornered (omega arith) .n-most)
+      go false p false x false y false z false v =
+          directed-stands (omega (arith, family-range, eqb-false w 1 p, eqb-false w 2 x, eqb-false w 3 y, eqb-false w 4 z, eqb-false w 5 v)) (eqb (familyOf b) 7) refl
+
+-- ---- the maker's answer
+
+tested : (b : List ℕ) → Answer rules.Job
+tested b = check (formed b) form (check (sized b) size (check (not (twins (used b))) twin (accepted (jobIn b))))
+
+answer-is : (b : List ℕ) → jobAnswer b ≡ tested b
+unfolding jobAnswer tested
+answer-is b = refl
+
+pub made-kept : (b : List ℕ) → Bytes b → madeOf b .refusal ≡ 0 → Kept b (madeOf b .job)
+unfolding madeOf tested refusalNumber
+made-kept b bytes e = go (formed b) refl (sized b) refl (twins (used b)) refl e
+  where
+    Made-by : Bool → Bool → Bool → Answer rules.Job
+    Made-by p q r = check p form (check q size (check (not r) twin (accepted (jobIn b))))
+    go : (p : Bool) → formed b ≡ p → (q : Bool) → sized b ≡ q → (r : Bool) → twins (used b) ≡ r → makes (Made-by p q r) b .refusal ≡ 0 → Kept b (makes (Made-by p q r) b .job)
+    go true p true q false r e = record { job = jobIn b; answer = answer-is b ∙ rw (p, q, r); stands = held-stands b bytes p q }
+    go true p true q true r e = absurd (omega arith)
+    go true p false q x r e = absurd (omega arith)
+    go false p y q x r e = absurd (omega arith)
+
+pub made-told : (b : List ℕ) (r : ℕ) → madeOf b .refusal ≡ r → (r ≡ 0 → ⊥) → Told b r
+unfolding madeOf tested refusalNumber
+made-told b n e f = go (jobAnswer b) refl e
+  where
+    go : (a : Answer rules.Job) → jobAnswer b ≡ a → makes a b .refusal ≡ n → Told b n
+    go (accepted J) q e = absurd (f (sym e))
+    go (refused x) q e = record { refusal = x; answer = q; number = sym e }
