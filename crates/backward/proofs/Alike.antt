@@ -64,7 +64,7 @@ module _ (State : Type 0) (letters : ℕ) (start : State → Bool) (size : State
     unrank-alike m r l =
         let b : Built R L m r (unrank R m r) = unrank-built R L m r l in
         sym (unrank-one S K m r (unrank R m r)
-          (record { is = subst T (valid-alike (unrank R m r) m) (b .is); has = sym (rank-alike (unrank R m r) m (b .is)) ∙ b .has }))
+        (record { is = subst T (valid-alike (unrank R m r) m) (b .is); has = sym (rank-alike (unrank R m r) m (b .is)) ∙ b .has }))
 
 -- ---- the grid
 

@@ -177,7 +177,7 @@ module _ (b : List ℕ) (k : ℕ) (p : Pairs b k) where
     small-from zero l = e
     small-from (suc i) l =
         rw (add-one i) at (is-true (small (drop (i + 1) (used b)))
-          (and-right (inRange (getD b (4 + 2 * i) 0) (raised (getD b (5 + 2 * i) 0))) (small (drop (i + 1) (used b))) (both i l (small-from i (omega arith)))))
+        (and-right (inRange (getD b (4 + 2 * i) 0) (raised (getD b (5 + 2 * i) 0))) (small (drop (i + 1) (used b))) (both i l (small-from i (omega arith)))))
 
     pub small-range : (i : ℕ) → i < k → T (inRange (getD b (4 + 2 * i) 0) (raised (getD b (5 + 2 * i) 0)))
     small-range i l = and-left (inRange (getD b (4 + 2 * i) 0) (raised (getD b (5 + 2 * i) 0))) (small (drop (i + 1) (used b))) (both i l (small-from i (omega arith)))

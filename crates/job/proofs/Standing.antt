@@ -41,6 +41,7 @@ Bytes b = (i : ℕ) → getD b i 0 < 256
 pub record Kept (b : List ℕ) (j : Job) : Type 0 where
   pub job : rules.Job
   pub answer : jobAnswer b ≡ accepted job
+  pub family : j .family ≡ familyOf b
   pub stands : Stands j job
 
 pub record Told (b : List ℕ) (r : ℕ) : Type 0 where
@@ -87,7 +88,8 @@ ranged a b t =
       a-least = leb→le 1 a (and-left (leb 1 a) (leb a 3 && (leb 125 b && leb b 131)) t);
       a-most = leb→le a 3 (and-left (leb a 3) (leb 125 b && leb b 131) u);
       b-least = leb→le 125 b (and-left (leb 125 b) (leb b 131) v);
-      b-most = leb→le b 131 (and-right (leb 125 b) (leb b 131) v) }
+      b-most = leb→le b 131 (and-right (leb 125 b) (leb b 131) v);
+    }
 
 -- ---- what the tests say of a block
 
@@ -109,12 +111,13 @@ module _ (b : List ℕ) (bytes : Bytes b) (f : formed b ≡ true) (s : sized b �
       let m = raised (getD b 2 0) in
       let q = not (square (familyOf b)) || eqb m (128 + nOf b) in
       let t : T (leb (nOf b) 64 && ((leb 128 m && leb m 192) && q)) =
-          holds (sym (corner-is b m refl (byte 2)) ∙ sym (sized-is b ∙ ap (λ (x : Bool). pick x (sizedCorner b) (sizedDirected b)) (le-leb (familyOf b) 5 l)) ∙ s) in
+      holds (sym (corner-is b m refl (byte 2)) ∙ sym (sized-is b ∙ ap (λ (x : Bool). pick x (sizedCorner b) (sizedDirected b)) (le-leb (familyOf b) 5 l)) ∙ s) in
       let u = and-left (leb 128 m && leb m 192) q (and-right (leb (nOf b) 64) ((leb 128 m && leb m 192) && q) t) in
       record {
         n-most = leb→le (nOf b) 64 (and-left (leb (nOf b) 64) ((leb 128 m && leb m 192) && q) t);
         m-least = leb→le 128 m (and-left (leb 128 m) (leb m 192) u);
-        m-most = leb→le m 192 (and-right (leb 128 m) (leb m 192) u) }
+        m-most = leb→le m 192 (and-right (leb 128 m) (leb m 192) u);
+      }
 
   record Wide : Type 0 where
     n-most : nOf b ≤ 32
@@ -129,7 +132,7 @@ module _ (b : List ℕ) (bytes : Bytes b) (f : formed b ≡ true) (s : sized b �
       let m = raised (getD b 2 0) in
       let r = leb 1 (kOf b) && (leb (kOf b) 8 && small (used b)) in
       let t : T (leb (nOf b) 32 && ((leb 32 m && leb m 224) && r)) =
-          holds (sym (directed-is b m refl (byte 2)) ∙ sym (sized-is b ∙ ap (λ (x : Bool). pick x (sizedCorner b) (sizedDirected b)) (lt-leb (familyOf b) 5 l)) ∙ s) in
+      holds (sym (directed-is b m refl (byte 2)) ∙ sym (sized-is b ∙ ap (λ (x : Bool). pick x (sizedCorner b) (sizedDirected b)) (lt-leb (familyOf b) 5 l)) ∙ s) in
       let u = and-right (leb (nOf b) 32) ((leb 32 m && leb m 224) && r) t in
       let h = and-left (leb 32 m && leb m 224) r u in
       let g = and-right (leb 32 m && leb m 224) r u in
@@ -140,7 +143,8 @@ module _ (b : List ℕ) (bytes : Bytes b) (f : formed b ≡ true) (s : sized b �
         m-most = leb→le m 224 (and-right (leb 32 m) (leb m 224) h);
         some = leb→le 1 (kOf b) (and-left (leb 1 (kOf b)) (leb (kOf b) 8 && small (used b)) g);
         few = leb→le (kOf b) 8 (and-left (leb (kOf b) 8) (small (used b)) w);
-        small-ones = is-true (small (used b)) (and-right (leb (kOf b) 8) (small (used b)) w) }
+        small-ones = is-true (small (used b)) (and-right (leb (kOf b) 8) (small (used b)) w);
+      }
 
   -- ---- the job that is held
 
@@ -181,14 +185,14 @@ module _ (b : List ℕ) (bytes : Bytes b) (f : formed b ≡ true) (s : sized b �
         a-most = λ i h. omega (arith, held-a i (omega (arith, w .few)), ranged (getD b (4 + 2 * i) 0) (raised (getD b (5 + 2 * i) 0)) (r i h) .a-most);
         b-is = λ i h. rw (held-b i (omega (arith, w .few)), pair-at i h w) (signed-is (getD b (5 + 2 * i) 0) (byte (5 + 2 * i)));
         b-least = λ i h. omega (arith, held-b i (omega (arith, w .few)), ranged (getD b (4 + 2 * i) 0) (raised (getD b (5 + 2 * i) 0)) (r i h) .b-least);
-        b-most = λ i h. omega (arith, held-b i (omega (arith, w .few)), ranged (getD b (4 + 2 * i) 0) (raised (getD b (5 + 2 * i) 0)) (r i h) .b-most) }
+        b-most = λ i h. omega (arith, held-b i (omega (arith, w .few)), ranged (getD b (4 + 2 * i) 0) (raised (getD b (5 + 2 * i) 0)) (r i h) .b-most);
+      }
 
   family-range : (1 ≤ familyOf b) × (familyOf b ≤ 7)
   family-range =
       let z = zeros (pick (leb (familyOf b) 5) (drop 3 b) (drop (4 + 2 * kOf b) b)) in
       let t : T (eqb (length b) 20 && (leb 1 (familyOf b) && (leb (familyOf b) 7 && z))) = holds (sym (formed-is b) ∙ f) in
-      let u = and-right (eqb (length b) 20) (leb 1 (familyOf b) && (leb (familyOf b) 7 && z)) t in
-      (
+      let u = and-right (eqb (length b) 20) (leb 1 (familyOf b) && (leb (familyOf b) 7 && z)) t in (
         leb→le 1 (familyOf b) (and-left (leb 1 (familyOf b)) (leb (familyOf b) 7 && z) u),
         leb→le (familyOf b) 7 (and-left (leb (familyOf b) 7) z (and-right (leb 1 (familyOf b)) (leb (familyOf b) 7 && z) u)),
       )
@@ -204,9 +208,10 @@ module _ (b : List ℕ) (bytes : Bytes b) (f : formed b ≡ true) (s : sized b �
     where
       w : ℕ
       w = familyOf b
+
       go : (p : Bool) → eqb (familyOf b) 1 ≡ p → (q : Bool) → eqb (familyOf b) 2 ≡ q → (r : Bool) → eqb (familyOf b) 3 ≡ r → (t : Bool) → eqb (familyOf b) 4 ≡ t → (u : Bool) → eqb (familyOf b) 5 ≡ u
           → Stands (heldBy b) (pick p (north-east (nOf b) (height (mOf b))) (pick q (dyck (nOf b)) (pick r (delannoy (nOf b) (height (mOf b))) (pick t (schroder (nOf b))
-            (pick u (motzkin (nOf b)) (directed (eqb (familyOf b) 7) (nOf b) (mOf b) (used b)))))))
+          (pick u (motzkin (nOf b)) (directed (eqb (familyOf b) 7) (nOf b) (mOf b) (used b)))))))
       go true p q x r y t z u v = let e = eqb-true w 1 p in as-north-east e (level (omega arith))
       go false p true x r y t z u v = let e = eqb-true w 2 x in as-dyck e (cornered (omega arith) .n-most)
       go false p false x true y t z u v = let e = eqb-true w 3 y in as-delannoy e (level (omega arith))
@@ -225,13 +230,14 @@ unfolding jobAnswer tested
 answer-is b = refl
 
 pub made-kept : (b : List ℕ) → Bytes b → madeOf b .refusal ≡ 0 → Kept b (madeOf b .job)
-unfolding madeOf tested refusalNumber
+unfolding madeOf tested refusalNumber heldBy
 made-kept b bytes e = go (formed b) refl (sized b) refl (twins (used b)) refl e
   where
     Made-by : Bool → Bool → Bool → Answer rules.Job
     Made-by p q r = check p form (check q size (check (not r) twin (accepted (jobIn b))))
+
     go : (p : Bool) → formed b ≡ p → (q : Bool) → sized b ≡ q → (r : Bool) → twins (used b) ≡ r → makes (Made-by p q r) b .refusal ≡ 0 → Kept b (makes (Made-by p q r) b .job)
-    go true p true q false r e = record { job = jobIn b; answer = answer-is b ∙ rw (p, q, r); stands = held-stands b bytes p q }
+    go true p true q false r e = record { job = jobIn b; answer = answer-is b ∙ rw (p, q, r); family = refl; stands = held-stands b bytes p q }
     go true p true q true r e = absurd (omega arith)
     go true p false q x r e = absurd (omega arith)
     go false p y q x r e = absurd (omega arith)

@@ -33,6 +33,7 @@ use Rattle.rules.specs.Refusals.Answer.{accepted, refused}
 use Rattle.rules.specs.Blocks.{jobAnswer}
 use Rattle.rules.specs.Answers.{most, knownJob, numberAnswer, edgeAnswer, Written, written, buildAnswer}
 use Rattle.rules.specs.Demand.{Demand3}
+use Rattle.rules.proofs.Answering.{number-known, edge-known}
 use Rattle.rules.proofs.Demand3.{passed, refused-not, accepted-one, demand-3}
 
 -- what a block that is passed over by refusals 1 to 4 stands for
@@ -57,12 +58,10 @@ module _ (block : List ℕ) (J : Job) (known : knownJob block ≡ accepted J) wh
 
   -- the two answers, once the job is known
   number-is : (e : List ℕ) → numberAnswer block e ≡ check (walks J origin e) not-an-edge (accepted (numberOf J e))
-  unfolding numberAnswer
-  number-is e = ap (λ (a : Answer Job). andThen a (λ K. check (walks K origin e) not-an-edge (accepted (numberOf K e)))) known
+  number-is e = number-known block e J known
 
   edge-is : (r : ℕ) → edgeAnswer block r ≡ check (ltb r (countOf J)) beyond (accepted (edgeOf J r))
-  unfolding edgeAnswer
-  edge-is r = ap (λ (a : Answer Job). andThen a (λ K. check (ltb r (countOf K)) beyond (accepted (edgeOf K r)))) known
+  edge-is r = edge-known block r J known
 
   pub number-valid : (e : List ℕ) → Valid J e → numberAnswer block e ≡ accepted (numberOf J e)
   unfolding Valid

@@ -7,6 +7,7 @@ pub mod Corners
 pub mod Slopes
 pub mod ArchPaths
 pub mod Demand3
+pub mod Answering
 pub mod Hence
 pub mod Recurrences
 pub mod Widths
