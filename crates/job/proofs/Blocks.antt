@@ -7,7 +7,7 @@
 --   small-more, small-not, small-end       one pair more of `small`; small-range: each pair then
 --   in-found, in-other-a, in-other-b, in-end    one pair more of `isIn`
 --   twins-next, twins-end                  one pair more of `twins`
---   rest, zeros-past                       the end of a block
+--   rest, zeros-past                       the end of a block; no-family: an empty one
 --   formed-is, corner-is, directed-is, sized-is    the tests of form and size on raised numbers
 use Prim.Native.Nat.{ℕ, zero, suc, _+_, _-_, _*_, _%_, _≤_, _<_}
 use mathlib.Core.Path.{_≡_, refl, ap, ap₂, sym, _∙_, subst}
@@ -249,3 +249,7 @@ directed-is b m e l =
 pub sized-is : (b : List ℕ) → sized b ≡ pick (leb (familyOf b) 5) (sizedCorner b) (sizedDirected b)
 unfolding sized
 sized-is b = refl
+
+pub no-family : (b : List ℕ) → length b ≡ 0 → square (familyOf b) ≡ false
+no-family [] e = refl
+no-family (x ∷ b) e = absurd (omega arith)

@@ -2,7 +2,7 @@
 ghost use mathlib.Core.Path.{_≡_};
 ghost use Prim.Native.Nat.{ℕ, _+_, _*_, _%_, _≤_, _<_};
 ghost use lib.ListN.{length, drop, getD};
-ghost use Rattle.rules.specs.Blocks.{zeros, formed, sized, sizedCorner, sizedDirected, small, used, isIn, twins};
+ghost use Rattle.rules.specs.Blocks.{familyOf, square, zeros, formed, sized, sizedCorner, sizedDirected, small, used, isIn, twins};
 ghost use Rattle.job.specs.Made.{raised, pairOf, inRange, Twenty, Pairs, madeOf, heldBy, refusedBy};
 
 // A step's letter: `N`, `E` and `D` of families 1 to 5, and `1`, the first digit of families 6 and 7.
@@ -71,6 +71,23 @@ fn wide(x: u8) -> usize
     ensures { λ r. ⌜ r ≡ x ⌝ }
 {
     x as usize
+}
+
+// Whether the block is of a family that stays at y ≤ x: 2, 4 or 5.
+pub fn is_square(block: &[u8]) -> bool
+    ensures { λ r. ⌜ r ≡ square (familyOf (now (block .entry))) ⌝ }
+{
+    if block.len() == 0 {
+        return false;
+    }
+    let family = block[0];
+    if family == 2 {
+        return true;
+    }
+    if family == 4 {
+        return true;
+    }
+    family == 5
 }
 
 // Whether every byte is zero.

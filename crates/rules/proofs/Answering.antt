@@ -1,12 +1,12 @@
 -- The answers on a block, step by step, for code that works them out so. Assumes nothing.
 --
 --   known-told, known-over, known-fits         the job whose count fits, from the job's answer
---   count-told, count-known                    the count, from that job
+--   count-told, count-known, count-fitted      the count, from that job
 --   width-of-count                             the width, from the count
 --   number-told, number-known                  an edge's number
 --   edge-told, edge-known                      a number's edge
 use mathlib.Core.Path.{_≡_, refl, ap, _∙_}
-use mathlib.Core.Bool.{Bool}
+use mathlib.Core.Bool.{Bool, true, false}
 use mathlib.Core.List.{List}
 use Prim.Native.Nat.{ℕ, _^_, _≤_, _<_}
 use native.Mathlib.Omega.{arith}
@@ -46,6 +46,14 @@ module _ (b : List ℕ) where
   pub count-known : (J : Job) → knownJob b ≡ accepted J → countAnswer b ≡ accepted (countOf J)
   unfolding countAnswer
   count-known J e = ap (λ (a : Answer Job). andThen a (λ J. accepted (countOf J))) e
+
+  pub count-fitted : (J : Job) → jobAnswer b ≡ accepted J → countAnswer b ≡ check (leb (countOf J) most) over (accepted (countOf J))
+  unfolding countAnswer
+  count-fitted J e = ap (λ (a : Answer Job). andThen a (λ J. accepted (countOf J))) (known-of J e) ∙ go (leb (countOf J) most)
+    where
+      go : (t : Bool) → andThen (check t over (accepted J)) (λ J. accepted (countOf J)) ≡ check t over (accepted (countOf J))
+      go true = refl
+      go false = refl
 
   pub number-told : (e : List ℕ) (r : Refusal) → knownJob b ≡ refused r → numberAnswer b e ≡ refused r
   unfolding numberAnswer
