@@ -9,7 +9,7 @@ use Rattle.job.proofs.is_square.Statement.{statement}
 use Rattle.job.proofs.is_square.Tie as tie
 
 returns : tie.Need-returns
-returns c = sym (no-family _ (c .if1 .taken))
+returns c = sym (no-family (c .before .args .block .now) (c .if1 .taken))
 
 shared-slice-read-family : tie.Need-shared-slice-read-family
 shared-slice-read-family c = search needs

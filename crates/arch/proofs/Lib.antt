@@ -1,0 +1,8 @@
+pub mod Tables
+pub mod Constants
+pub mod Sides
+pub mod Spots
+pub mod Reading
+pub mod ReadingBack
+pub mod Writing
+pub mod Memos

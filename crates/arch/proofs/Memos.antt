@@ -1,0 +1,113 @@
+-- The Dyck counts by half of their products, and the memo that keeps them. Assumes nothing.
+--
+--   C n                      the count for n
+--   part n i                 the products for the sizes below i
+--   fits, zero-is            the count fits, and for 0 it is 1
+--   part-next, part-fits     one product more, and that it fits
+--   twice-fits, even-is, odd-is    the count is twice the first half of the products, and for an odd n the middle one
+--   good-none, good-set      an empty memo is good, and so is one with an entry more
+--   Filled k l               the entries of l below k are the counts
+--   filled-none, filled-next, filled-table    so at the start, with an entry more, and at the end
+use mathlib.Core.Path.{_≡_, refl, sym, _∙_}
+use mathlib.Core.Bool.{false}
+use mathlib.Core.Logic.{_≢_}
+use mathlib.Core.List.{List}
+use Prim.Native.Nat.{ℕ, zero, suc, _+_, _-_, _*_, _/_, _%_, _^_, _≤_, _<_}
+use native.Mathlib.Nat.{not-suc-le-zero}
+use native.Mathlib.Decide.{ℕ-discrete, decLe}
+use native.Mathlib.Omega.{arith}
+use lib.ListN.{getD, length, set, length-set, List·getD-eq-default, replicate}
+use lib.Seq.{getD-set-same, getD-set-other}
+use Rattle.arches.specs.Counts.{count, before}
+use Rattle.arches.proofs.Counting.{count-zero, before-mono}
+use Rattle.arches.proofs.Limits.{dyck-limit}
+use Rattle.arch.specs.Table.{Table}
+use Rattle.arch.specs.Memo.{Good}
+use Rattle.arch.proofs.Tables.{before-next}
+use Rattle.arch.proofs.Sides.{sides, whole-is}
+
+abbrev pub C : ℕ → ℕ
+C n = count false 0 n
+
+abbrev pub part : ℕ → ℕ → ℕ
+part n i = before false 0 (n - 1) i
+
+pub fits : (n : ℕ) → n ≤ 36 → C n < 2 ^ 64
+fits n h = dyck-limit n .0 h
+
+pub zero-is : (n : ℕ) → n ≡ 0 → 1 ≡ C n
+zero-is n e = rw e (sym (count-zero false 0))
+
+-- both halves are all of them
+halves : (n i : ℕ) → 0 < n → i ≤ n → part n i + part n (n - i) ≡ C n
+halves n i pos h =
+    let e : n - 1 + 1 ≡ n = omega arith in
+    let g : n - 1 + 0 + 1 ≡ n = omega arith in
+    omega (arith, rw e at (sides false 0 (n - 1) i (omega arith)), rw (g, e) at (whole-is false 0 (n - 1)))
+
+module _ (n i a b s : ℕ) (pos : 0 < n) (ea : a ≡ C i) (eb : b ≡ C (n - 1 - i)) (es : s ≡ part n i) where
+  pub part-next : s + a * b ≡ part n (i + 1)
+  part-next = rw (ea, eb, es) (sym (before-next false 0 (n - 1) i))
+
+  pub part-fits : n ≤ 36 → i < n → s + a * b < 2 ^ 64
+  part-fits h l =
+      let z : n - n ≡ 0 = omega arith in
+      omega (arith, part-next, fits n h, halves n n pos (omega arith), before-mono false 0 (n - 1) (i + 1) n (omega arith))
+
+module _ (n half s : ℕ) (pos : 0 < n) (eh : half ≡ n / 2) (es : s ≡ part n half) where
+  pub twice-fits : n ≤ 36 → s + s < 2 ^ 64
+  twice-fits h = omega (arith, fits n h, halves n half pos (omega arith), before-mono false 0 (n - 1) half (n - half) (omega arith))
+
+  pub even-is : n % 2 ≡ 0 → s + s ≡ C n
+  even-is e = let g : n - half ≡ half = omega arith in omega (arith, rw g at (halves n half pos (omega arith)))
+
+  pub odd-is : (a : ℕ) → n % 2 ≢ 0 → a ≡ C half → s + s + a * a ≡ C n
+  odd-is a ne ea =
+      let g : n - half ≡ half + 1 = omega arith in
+      let k : n - 1 - half ≡ half = omega arith in
+      rw ea (omega (arith, rw g at (halves n half pos (omega arith)), rw k at (before-next false 0 (n - 1) half)))
+
+-- ---- the memo
+none-at : (n k : ℕ) → _≡_ {A = ℕ} (getD (replicate n 0) k 0) 0
+none-at zero k = refl
+none-at (suc n) zero = refl
+none-at (suc n) (suc k) = none-at n k
+
+pub good-none : (n : ℕ) → Good (replicate n 0)
+unfolding Good
+good-none n k ne = absurd (ne (none-at n k))
+
+pub good-set : (l : List ℕ) (n w : ℕ) → Good l → w ≡ C n → Good (set l n w)
+unfolding Good
+good-set l n w g e k ne = go (ℕ-discrete k n) (decLe (length l) n)
+  where
+    go : Dec (k ≡ n) → Dec (length l ≤ n) → getD (set l n w) k 0 ≡ C k
+    go (yes q) (yes h) = absurd (ne (List·getD-eq-default (set l n w) 0 (omega (arith, length-set l n w))))
+    go (yes q) (no h) = rw q (getD-set-same l n w 0 (omega arith) ∙ e)
+    go (no q) h = getD-set-other l n k w 0 q ∙ g k (λ z. ne (getD-set-other l n k w 0 q ∙ z))
+
+-- ---- the table: the entries below k are the counts
+unfoldable pub Filled : ℕ → List ℕ → Type 0
+Filled k l = (j : ℕ) → j < k → getD l j 0 ≡ C j
+
+pub filled-none : (l : List ℕ) → Filled 0 l
+unfolding Filled
+filled-none l j h = absurd (not-suc-le-zero h)
+
+pub filled-next : (k w : ℕ) (l : List ℕ) → Filled k l → k < length l → w ≡ C k → Filled (k + 1) (set l k w)
+unfolding Filled
+filled-next k w l f h e j g = go (ℕ-discrete j k)
+  where
+    go : Dec (j ≡ k) → getD (set l k w) j 0 ≡ C j
+    go (yes q) = rw q (getD-set-same l k w 0 h ∙ e)
+    go (no q) = getD-set-other l k j w 0 q ∙ f j (omega arith)
+
+pub filled-table : (n k : ℕ) (l : List ℕ) → n ≤ 36 → n < k → n < length l → Filled k l → Table false 0 n l
+unfolding Filled
+filled-table n k l h g s f = record {
+  family = refl;
+  long = s;
+  full = λ j i. f j (omega arith);
+  fits = fits n h;
+  small = omega arith;
+}

@@ -1,0 +1,25 @@
+-- What number and build answer.
+--
+--   IsEdge d v n r s          s is an edge of n, with the number r
+--   Numbered good d v n r s   that, or that s is no edge of n
+--   Written d v n r old new k   the first k of the bytes old are now the edge of number r, and the others are as they were
+use mathlib.Core.Path.{_≡_}
+use mathlib.Core.Bool.{Bool, true, false}
+use mathlib.Core.List.{List, _++_}
+use Prim.Native.Nat.{ℕ, _+_, _≤_}
+use lib.ListN.{length, drop}
+use Rattle.arches.specs.Trees.{number, build, print, treeOf}
+use Rattle.arches.proofs.Paths.{Walk}
+
+pub record IsEdge (d : Bool) (v n r : ℕ) (s : List ℕ) : Type 0 where
+  pub walk : Walk d v 0 0 s n
+  pub numbered : r ≡ number d v (treeOf d v s)
+
+abbrev pub Numbered : Bool → Bool → ℕ → ℕ → ℕ → List ℕ → Type 0
+Numbered true d v n r s = IsEdge d v n r s
+Numbered false d v n r s = Walk d v 0 0 s n → ⊥
+
+pub record Written (d : Bool) (v n r : ℕ) (old new : List ℕ) (k : ℕ) : Type 0 where
+  pub shown : new ≡ print d v (build d v n n r) ++ drop k old
+  pub long : length (print d v (build d v n n r)) ≡ k
+  pub short : k ≤ n + n

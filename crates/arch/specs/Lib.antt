@@ -1,0 +1,6 @@
+pub mod Table
+pub mod Sums
+pub mod Answers
+pub mod Reading
+pub mod ReadingBack
+pub mod Memo
