@@ -3,7 +3,7 @@
 --   Kept b j         the block's job isn't refused, and j stands for it
 --   Told b r         the block is refused with the number r
 --   made-kept        where no refusal is told, the job is kept
---   made-told        where one is told, it is the block's
+--   made-told        where one is told, it is the block's; kept-of, told-of: the same of an answer in hand
 use Prim.Native.Nat.{ℕ, zero, suc, _+_, _*_, _≤_, _<_}
 use mathlib.Core.Path.{_≡_, refl, ap, sym, _∙_, subst}
 use mathlib.Core.List.{List, [], _∷_}
@@ -35,7 +35,7 @@ use Rattle.job.proofs.Blocks.{formed-is, sized-is, corner-is, directed-
 use Rattle.job.proofs.Makes.{pairs-of}
 
 -- the bytes of a block
-pub Bytes : List ℕ → Type 0
+abbrev pub Bytes : List ℕ → Type 0
 Bytes b = (i : ℕ) → getD b i 0 < 256
 
 pub record Kept (b : List ℕ) (j : Job) : Type 0 where
@@ -95,7 +95,6 @@ ranged a b t =
 
 module _ (b : List ℕ) (bytes : Bytes b) (f : formed b ≡ true) (s : sized b ≡ true) where
   byte : (i : ℕ) → getD b i 0 < 256
-  unfolding Bytes
   byte i = bytes i
 
   m-is : Is (mOf b) (raised (getD b 2 0)) 128
@@ -249,3 +248,11 @@ made-told b n e f = go (jobAnswer b) refl e
     go : (a : Answer rules.Job) → jobAnswer b ≡ a → makes a b .refusal ≡ n → Told b n
     go (accepted J) q e = absurd (f (sym e))
     go (refused x) q e = record { refusal = x; answer = q; number = sym e }
+
+-- ---- the same of a maker's answer in hand
+
+pub kept-of : (b : List ℕ) (m : Made) → Bytes b → m ≡ madeOf b → m .refusal ≡ 0 → Kept b (m .job)
+kept-of b m bytes e z = rw e (made-kept b bytes (rw e at z))
+
+pub told-of : (b : List ℕ) (m : Made) → m ≡ madeOf b → (m .refusal ≡ 0 → ⊥) → Told b (m .refusal)
+told-of b m e f = rw e (made-told b (madeOf b .refusal) refl (λ z. f (rw e z)))
