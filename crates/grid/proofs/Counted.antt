@@ -1,0 +1,126 @@
+-- The count of a job, from its shape and its table. Assumes nothing.
+--
+--   Working J s                             the shape has steps and an end to be worked out
+--   state-over, state-none, state-working   what a shape's state says
+--   counts-over, counts-none, counts-cap    the reply for each way to a count
+--   told-reply, square-reply, count-reply   the reply for each way through a block
+use mathlib.Core.Path.{_≡_, refl, sym, ap, _∙_, subst}
+use mathlib.Core.Bool.{Bool, true, false}
+use mathlib.Core.List.{List}
+use Prim.Native.Nat.{ℕ, _^_, _≤_, _<_}
+use native.Mathlib.Decide.{decLt}
+use native.Mathlib.Omega.{arith}
+use lib.Dec.{T, leb, ltb}
+use lib.ListN.{getD}
+use borrow.Author.Tests.{le-leb, lt-leb, lt-ltb, le-ltb}
+use Rattle.howmany.specs.Choose.{pick}
+use Rattle.rules.specs.Jobs as rules
+use Rattle.rules.specs.Counts.{countOf}
+use Rattle.rules.specs.Valid.{Valid}
+use Rattle.rules.specs.Blocks.{familyOf, square, jobAnswer}
+use Rattle.rules.specs.Refusals.{Refusal, Answer, check, refusalNumber}
+use Rattle.rules.specs.Refusals.Refusal.{kind, over}
+use Rattle.rules.specs.Refusals.Answer.{accepted, refused}
+use Rattle.rules.specs.Answers.{most, countAnswer}
+use Rattle.rules.proofs.Demand3.{InRange}
+use Rattle.rules.proofs.Answering.{known-told, count-told, count-fitted}
+use Rattle.job.specs.Replies.{Reply, reply}
+use Rattle.job.specs.Replies.Reply.{value, refusal}
+use Rattle.job.specs.declared.Job.{Job}
+use Rattle.job.specs.Stands.{Stands}
+use Rattle.job.proofs.Standing.{Kept, Told}
+use Rattle.grid.specs.Form.{Form, W}
+use Rattle.grid.specs.Cells.{capBy, capOf}
+use Rattle.grid.specs.Shapes.{Sound, Fits, Shaped}
+use Rattle.grid.specs.Shapes.Shaped.{worked, over as is-over, nothing}
+use Rattle.grid.specs.Calls.{forGrid}
+use Rattle.grid.specs.declared.shape.Shape.{Shape}
+use Rattle.grid.specs.declared.Answer as answers
+use Rattle.grid.specs.declared.Answer.the-variants.{Count, Over}
+use Rattle.grid.proofs.Grounds.{grids-of, stands-range, shape-count}
+
+pub record Working (J : rules.Job) (s : Shape) : Type 0 where
+  pub form : Form (s .k) (s .f) (s .sa) (s .sc) (s .top) (s .ex) (s .ey)
+  pub fits : Fits J s
+
+module _ (J : rules.Job) (s : Shape) where
+  pub state-over : Shaped J s → s .state ≡ 1 → 2 ^ 64 ≤ countOf J
+  state-over (worked e f g) h = absurd (omega arith)
+  state-over (is-over e l) h = l
+  state-over (nothing e z n) h = absurd (omega arith)
+
+  pub state-none : Shaped J s → s .state ≡ 2 → countOf J ≡ 0
+  state-none (worked e f g) h = absurd (omega arith)
+  state-none (is-over e l) h = absurd (omega arith)
+  state-none (nothing e z n) h = z
+
+  pub state-empty : Shaped J s → s .state ≡ 2 → (e : List ℕ) → Valid J e → ⊥
+  state-empty (worked e f g) h = absurd (omega arith)
+  state-empty (is-over e l) h = absurd (omega arith)
+  state-empty (nothing e z n) h = n
+
+  pub state-working : Shaped J s → (s .state ≡ 1 → ⊥) → (s .state ≡ 2 → ⊥) → Working J s
+  state-working (worked e f g) a b = record { form = f; fits = g }
+  state-working (is-over e l) a b = absurd (a e)
+  state-working (nothing e z n) a b = absurd (b e)
+
+-- ---- the reply to a count
+
+count-one : (c d : ℕ) → Count c ≡ Count d → c ≡ d
+count-one c d e = cc
+
+not-over : (c : ℕ) → Count c ≡ Over → ⊥
+not-over c e = let z : _≡_ {A = ℕ} 0 1 = cc in omega arith
+
+pub counts-over : (c : ℕ) → 2 ^ 64 ≤ c → refusal 4 ≡ reply (check (leb c most) over (accepted c))
+unfolding refusalNumber
+counts-over c l = rw (lt-leb c most (omega arith)) refl
+
+pub counts-value : (c d : ℕ) → c ≡ d → c < 2 ^ 64 → value d ≡ reply (check (leb c most) over (accepted c))
+counts-value c d e l = rw (le-leb c most (omega arith)) (ap value (sym e))
+
+pub cap-count : (w c : ℕ) → Count c ≡ capOf w → (w ≡ c) × (w < 2 ^ 64)
+unfolding capOf
+cap-count w c e = go (decLt w (2 ^ 64))
+  where
+    go : Dec (w < 2 ^ 64) → (w ≡ c) × (w < 2 ^ 64)
+    go (yes l) = let q : Count c ≡ Count w = e ∙ rw (lt-ltb w (2 ^ 64) l) refl in (sym (count-one c w q), l)
+    go (no l) = absurd (not-over c (e ∙ rw (le-ltb w (2 ^ 64) (omega arith)) refl))
+
+pub cap-over : (w : ℕ) → Over ≡ capOf w → 2 ^ 64 ≤ w
+unfolding capOf
+cap-over w e = go (decLt w (2 ^ 64))
+  where
+    go : Dec (w < 2 ^ 64) → 2 ^ 64 ≤ w
+    go (yes l) = absurd (not-over w (sym (e ∙ rw (lt-ltb w (2 ^ 64) l) refl)))
+    go (no l) = omega arith
+
+pub counts-cap : (J : rules.Job) (s : Shape) → InRange J → Working J s → (c : ℕ) → Count c ≡ capOf (W (s .k) (s .f) (s .sa) (s .sc) (s .ex) (s .ey))
+    → value c ≡ reply (check (leb (countOf J) most) over (accepted (countOf J)))
+counts-cap J s r w c e =
+    let q = cap-count (W (s .k) (s .f) (s .sa) (s .sc) (s .ex) (s .ey)) c e in
+    let z = shape-count J s r (w .fits) in
+    counts-value (countOf J) c (sym z ∙ q .0) (omega (arith, q .1))
+
+pub counts-cap-over : (J : rules.Job) (s : Shape) → InRange J → Working J s → Over ≡ capOf (W (s .k) (s .f) (s .sa) (s .sc) (s .ex) (s .ey))
+    → refusal 4 ≡ reply (check (leb (countOf J) most) over (accepted (countOf J)))
+counts-cap-over J s r w e = counts-over (countOf J) (omega (arith, cap-over (W (s .k) (s .f) (s .sa) (s .sc) (s .ex) (s .ey)) e, shape-count J s r (w .fits)))
+
+-- ---- the ways through a block
+
+pub square-reply : (b : List ℕ) (a : Answer ℕ) → square (familyOf b) ≡ true → refusal 11 ≡ reply (forGrid b a)
+unfolding refusalNumber
+square-reply b a e = rw e refl
+
+pub told-reply : (b : List ℕ) (r : ℕ) (a : Answer ℕ) → square (familyOf b) ≡ false → (t : Told b r) → a ≡ refused (t .refusal) → refusal r ≡ reply (forGrid b a)
+told-reply b r a e t q = rw (e, q) (ap refusal (t .number))
+
+pub count-told-reply : (b : List ℕ) (r : ℕ) → square (familyOf b) ≡ false → Told b r → refusal r ≡ reply (forGrid b (countAnswer b))
+count-told-reply b r e t = told-reply b r (countAnswer b) e t (count-told b (t .refusal) (known-told b (t .refusal) (t .answer)))
+
+pub sound-of : (b : List ℕ) (j : Job) → Kept b j → square (familyOf b) ≡ false → Sound j
+sound-of b j k e = record { job = k .job; stands = k .stands; grids = grids-of j (k .job) (k .stands) (ap square (k .family) ∙ e) }
+
+pub count-reply : (b : List ℕ) (J : rules.Job) (x : Reply) → square (familyOf b) ≡ false → jobAnswer b ≡ accepted J
+    → x ≡ reply (check (leb (countOf J) most) over (accepted (countOf J))) → x ≡ reply (forGrid b (countAnswer b))
+count-reply b J x e a q = q ∙ rw e (ap reply (sym (count-fitted b J a)))

@@ -1,0 +1,78 @@
+-- What a shape's grid says of its job: its count is the grid's. Assumes nothing.
+--
+--   grids-of          a job that isn't of family 2, 4 or 5 is one of the grid's
+--   end-count         the count of a job, by its own grid
+--   shape-count       the count of a job, by the grid of its shape
+use mathlib.Core.Path.{_≡_, refl, sym, ap, _∙_, subst}
+use mathlib.Core.Bool.{Bool, true, false, _||_}
+use mathlib.Core.List.{List}
+use Prim.Native.Nat.{ℕ, _<_}
+use native.Mathlib.Omega.{arith}
+use lib.Dec.{T, eqb}
+use lib.IntN.{ℤ, pos}
+use lib.ListN.{getD}
+use borrow.Author.Tests.{eq-eqb}
+use Rattle.backward.specs.Grid.{Spot, Steps, paths}
+use Rattle.backward.proofs.Alike.{paths-alike}
+use Rattle.rules.specs.Jobs as rules
+use Rattle.rules.specs.Jobs.{Pair}
+use Rattle.rules.specs.Jobs.Job.{north-east, dyck, delannoy, schroder, motzkin, directed}
+use Rattle.rules.specs.Counts.{L, Dl, W as Wℤ, countOf}
+use Rattle.rules.specs.Shear.{gridOf, Corner, Slope}
+use Rattle.rules.specs.Blocks.{square}
+use Rattle.rules.proofs.Sheared.{Shear}
+use Rattle.rules.proofs.Corners.{north-east-shear, delannoy-shear}
+use Rattle.rules.proofs.Slopes.{Small, slope-shear}
+use Rattle.rules.proofs.Demand3.{InRange}
+use Rattle.job.specs.declared.Job.{Job}
+use Rattle.job.specs.Stands.{Stands}
+use Rattle.job.specs.Stands.Stands.{as-north-east, as-dyck, as-delannoy, as-schroder, as-motzkin, as-open, as-fenced}
+use Rattle.grid.specs.Form.{Form, stepsIn, spot, W}
+use Rattle.grid.specs.Shapes.{Grids, Sits, Fits}
+use Rattle.grid.specs.declared.shape.Shape.{Shape}
+use Rattle.grid.proofs.Shaping.{small}
+
+-- where 2, 4 and 5 are told apart
+square-two : (f : ℕ) → f ≡ 2 → square f ≡ true
+square-two f e = rw (eq-eqb f 2 e)
+
+square-four : (f : ℕ) → f ≡ 4 → square f ≡ true
+square-four f e = rw e refl
+
+square-five : (f : ℕ) → f ≡ 5 → square f ≡ true
+square-five f e = rw e refl
+
+pub grids-of : (j : Job) (J : rules.Job) → Stands j J → square (j .family) ≡ false → Grids J
+grids-of j (north-east n m) s q = tt
+grids-of j (dyck n) (as-dyck e v) q = subst (λ (t : Bool). T t) (sym (square-two (j .family) e) ∙ q) tt
+grids-of j (delannoy n m) s q = tt
+grids-of j (schroder n) (as-schroder e v) q = subst (λ (t : Bool). T t) (sym (square-four (j .family) e) ∙ q) tt
+grids-of j (motzkin n) (as-motzkin e v) q = subst (λ (t : Bool). T t) (sym (square-five (j .family) e) ∙ q) tt
+grids-of j (directed f n m p) s q = tt
+
+-- a job that a held job stands for is in range
+pub stands-range : (j : Job) (J : rules.Job) → Stands j J → InRange J
+stands-range j (north-east n m) s = tt
+stands-range j (dyck n) s = tt
+stands-range j (delannoy n m) s = tt
+stands-range j (schroder n) s = tt
+stands-range j (motzkin n) s = tt
+stands-range j (directed f n m p) (as-open e d) = small j false m p d
+stands-range j (directed f n m p) (as-fenced e d) = small j true m p d
+
+pub end-count : (J : rules.Job) → InRange J → (q : Spot) → Sits J q → countOf J ≡ paths (gridOf J) q
+unfolding countOf
+end-count (north-east n m) r q s = north-east-shear n m .agrees (record { x = n; y = pos m }) q s
+end-count (dyck n) r q s = absurd s
+end-count (delannoy n m) r q s = delannoy-shear n m .agrees (record { x = n; y = pos m }) q s
+end-count (schroder n) r q s = absurd s
+end-count (motzkin n) r q s = absurd s
+end-count (directed f n m p) r q s = slope-shear f p r n m .agrees (record { x = n; y = m }) q s
+
+pub shape-count : (J : rules.Job) (s : Shape) → InRange J → Fits J s → W (s .k) (s .f) (s .sa) (s .sc) (s .ex) (s .ey) ≡ countOf J
+unfolding W
+shape-count J s r f =
+    rw (sym (f .many), sym (f .fence))
+    (paths-alike (gridOf J .k) (gridOf J .f) (λ i. getD (s .sa) i 0) (gridOf J .a) (λ i. getD (s .sc) i 0) (gridOf J .c)
+    (λ i l. f .right i (rw (f .many) at l)) (λ i l. f .up i (rw (f .many) at l)) (spot (s .ex) (s .ey))
+    ∙ sym (end-count J r (spot (s .ex) (s .ey)) (f .end)))

@@ -1,0 +1,14 @@
+pub mod Laws
+pub mod Sums
+pub mod Counts
+pub mod Columns
+pub mod Turns
+pub mod Phases
+pub mod Prepare
+pub mod Glyphs
+pub mod Reading
+pub mod Numbers
+pub mod Building
+pub mod Shaping
+pub mod Grounds
+pub mod Counted

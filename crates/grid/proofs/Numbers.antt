@@ -1,0 +1,223 @@
+-- The number of an edge, read from its end over a filled table. Assumes nothing.
+--
+--   brought                      what a last step stands for, in the reader's words and in the table's
+--   Read, read-of                what a valid edge's last letter says
+--   num, num-all, num-none, num-step, num-below    the number of the first i letters, to (x, y)
+--   reads-at, stand-back         what can be read at a cell that stands before the end, and one step back
+--   read-in, read-is, read-more  the loop of `part_sum`
+--   Walking, walking-start, stepped, walking-end   the loop of `rank`
+use mathlib.Core.Path.{_≡_, refl, sym, ap, _∙_, subst}
+use mathlib.Core.Bool.{Bool, true, false}
+use mathlib.Core.List.{List, _∷_}
+use Prim.Native.Nat.{ℕ, _+_, _-_, _*_, _^_, _≤_, _<_}
+use native.Mathlib.Omega.{arith}
+use native.Mathlib.Decide.{decLe, decLt}
+use native.Mathlib.Nat.{mul-add, add-zero}
+use lib.Dec.{T}
+use lib.ListN.{length, getD}
+use Rattle.howmany.specs.Sum.{sum}
+use Rattle.howmany.proofs.Sums.{sum-cong, sum-mono, sum-below}
+use Rattle.backward.specs.Reader.{rank, count}
+use Rattle.backward.specs.Grid.{grid, paths}
+use Rattle.backward.proofs.Backward.{rank-below}
+use Rattle.backward.proofs.Grids.{grid-lawful, back-count}
+use Rattle.grid.specs.Form.{stepsIn, spot, W, via}
+use Rattle.grid.specs.Letters.{placeOf}
+use Rattle.grid.specs.Cells.{capOf, cellAt, strideOf, place, sourceOf}
+use Rattle.grid.specs.Table.{Plan, Prepared, Cells}
+use Rattle.grid.specs.Filling.{Solid}
+use Rattle.grid.specs.Edges.{endOf, numberOf, Stand, Reads, Ranking}
+use Rattle.grid.proofs.Laws.{sum-more, via-in, W-step, cell-value}
+use Rattle.grid.proofs.Counts.{pos-of}
+use Rattle.grid.proofs.Columns.{source-left, source-in, rows, grow, brings}
+use Rattle.grid.proofs.Phases.{last-row}
+use Rattle.grid.proofs.Reading.{wordTo, word-all, word-cons, word-none, back-is, end-in, ok, ok-all, ok-out, ok-no-letter, ok-left, ok-under, ok-step}
+
+-- ---- numbers of words
+
+pub brought : (k f : ℕ) (sa sc : List ℕ) → ((i : ℕ) → i < k → 1 ≤ getD sa i 0) → (x y j : ℕ) → count (grid (stepsIn k f sa sc)) (grid (stepsIn k f sa sc) .back (spot x y) j) ≡ via k f sa sc x y j
+unfolding via
+brought k f sa sc pos x y j = back-count (stepsIn k f sa sc) pos (spot x y) j
+
+false-true : {b : Bool} → b ≡ false → b ≡ true → ⊥
+false-true p q = let z : _≡_ {A = ℕ} 0 1 = cc in omega arith
+
+pub record Read (corner : Bool) (k f : ℕ) (sa sc e : List ℕ) (i x y l : ℕ) : Type 0 where
+  pub inside : f * x ≤ y
+  pub below : l < k
+  pub right : getD sa l 0 ≤ x
+  pub up : getD sc l 0 ≤ y
+  pub rest : ok corner k f sa sc e (i - 1) (x - getD sa l 0) (y - getD sc l 0) ≡ true
+
+unfoldable pub num : Bool → ℕ → ℕ → List ℕ → List ℕ → List ℕ → ℕ → ℕ → ℕ → ℕ
+num corner k f sa sc e i x y = rank (grid (stepsIn k f sa sc)) (wordTo (placeOf corner) e i) (endOf k f sa sc x y)
+
+module _ (corner : Bool) (k f : ℕ) (sa sc e : List ℕ) where
+  pub num-all : (x y : ℕ) → num corner k f sa sc e (length e) x y ≡ numberOf corner k f sa sc x y e
+  unfolding num numberOf
+  num-all x y = ap (λ (w : List ℕ). rank (grid (stepsIn k f sa sc)) w (endOf k f sa sc x y)) (word-all (placeOf corner) e)
+
+  pub num-none : (i x y : ℕ) → i ≤ 0 → num corner k f sa sc e i x y ≡ 0
+  unfolding num rank
+  num-none i x y h = ap (λ (w : List ℕ). rank (grid (stepsIn k f sa sc)) w (endOf k f sa sc x y)) (word-none (placeOf corner) e i h)
+
+  module _ (pos : (i : ℕ) → i < k → 1 ≤ getD sa i 0) where
+    pub read-of : (i x y l : ℕ) → 0 < i → l ≡ placeOf corner (getD e (i - 1) 0) → ok corner k f sa sc e i x y ≡ true → Read corner k f sa sc e i x y l
+    read-of i x y l h q v =
+        elim (decLt y (f * x)) [
+          | yes o ↦ absurd (false-true (ok-out corner k f sa sc e pos i x y l h q o) v)
+          | no o ↦ elim (decLe k l) [
+            | yes b ↦ absurd (false-true (ok-no-letter corner k f sa sc e pos i x y l h q (omega arith) b) v)
+            | no b ↦ elim (decLe (getD sa l 0) x) [
+              | yes a ↦ elim (decLe (getD sc l 0) y) [
+                | yes c ↦ record { inside = omega arith; below = omega arith; right = a; up = c; rest = sym (ok-step corner k f sa sc e pos i x y l h q (omega arith) (omega arith) a c) ∙ v }
+                | no c ↦ absurd (false-true (ok-under corner k f sa sc e pos i x y l h q (omega arith) a (omega arith)) v)
+              ]
+              | no a ↦ absurd (false-true (ok-left corner k f sa sc e pos i x y l h q (omega arith) (omega arith)) v)
+            ]
+          ]
+        ]
+
+    pub num-step : (i x y l : ℕ) → 0 < i → l ≡ placeOf corner (getD e (i - 1) 0) → Read corner k f sa sc e i x y l
+        → num corner k f sa sc e i x y ≡ sum (via k f sa sc x y) l + num corner k f sa sc e (i - 1) (x - getD sa l 0) (y - getD sc l 0)
+    unfolding num rank
+    num-step i x y l h q r =
+        ap (λ (w : List ℕ). rank (grid (stepsIn k f sa sc)) w (endOf k f sa sc x y)) (word-cons (placeOf corner) e i l h q)
+        ∙ ap (rank (grid (stepsIn k f sa sc)) (l ∷ wordTo (placeOf corner) e (i - 1))) (end-in k f sa sc x y (r .inside))
+        ∙ omega (
+          arith,
+          sum-cong (λ j. count (grid (stepsIn k f sa sc)) (grid (stepsIn k f sa sc) .back (spot x y) j)) (via k f sa sc x y) l (λ j _. brought k f sa sc pos x y j),
+          ap (rank (grid (stepsIn k f sa sc)) (wordTo (placeOf corner) e (i - 1))) (back-is k f sa sc x y l (r .right) (r .up)),
+        )
+
+    -- a valid edge's number is below the count
+    pub num-below : (i x y : ℕ) → ok corner k f sa sc e i x y ≡ true → num corner k f sa sc e i x y < W k f sa sc x y
+    unfolding num ok W paths
+    num-below i x y v = rank-below (grid (stepsIn k f sa sc)) (grid-lawful (stepsIn k f sa sc) pos) (wordTo (placeOf corner) e i) (endOf k f sa sc x y) (subst T (sym v) tt)
+
+-- ---- a filled table
+
+cells-less : {k f : ℕ} {sa sc : List ℕ} {hi m ex ey : ℕ} {val : List ℕ} (s : Solid k f sa sc hi m ex ey val) (x : ℕ) → x ≤ ex → Cells capOf (cellAt val (s .ov)) k f sa sc hi m ex ey x
+cells-less s x l = record { right = λ u y h en. s .flags .right u y (omega arith) en; margin = s .flags .margin; front = s .flags .front }
+
+module _ {few : Bool} {k f : ℕ} {sa sc off : List ℕ} {hi m ex ey : ℕ} {val : List ℕ} (r : Prepared few k f sa sc off hi m ex ey (length val)) (so : Solid k f sa sc hi m ex ey val) {x y p : ℕ}
+    (sp : Stand k f sa sc hi m ex ey x y p) (px : 1 ≤ x) (ins : f * x ≤ y) where
+  all-of : W k f sa sc x y ≡ sum (via k f sa sc x y) k
+  all-of = W-step k f sa sc (pos-of (r .plan)) x y px ins
+
+  via-le : (i : ℕ) → i < k → via k f sa sc x y i ≤ W k f sa sc x y
+  via-le i l = omega (arith, all-of, sum-below (via k f sa sc x y) i k l)
+
+  row-in : (x + 1) * strideOf m ey + strideOf m ey ≤ length val
+  row-in = omega (arith, r .room, last-row x (strideOf m ey), grow (strideOf m ey) (x + 2) (ex + 2) (omega (arith, sp .end)))
+
+  eight : (i : ℕ) → i < k → i < 8
+  eight i l = omega (arith, r .plan .most)
+
+  pub reads-at : Reads k f sa sc off val x y p
+  reads-at = rw (sp .at) (record {
+    most = r .plan .most;
+    back = λ i l ha. omega (arith, r .offs .is i (eight i l), r .plan .deep i (eight i l) (omega (arith, sp .end)), rows (strideOf m ey) x (getD sa i 0) ha);
+    in-val = λ i l. elim (decLe (getD sa i 0) x) [
+      | yes ha ↦ rw (source-in sa off x (place m ey x y) i ha) (omega (arith, row-in, sp .ends .0))
+      | no ha ↦ rw (source-left sa off x (place m ey x y) i (omega arith)) (omega (arith, row-in))
+    ];
+    says = λ i l. cell-value _ (getD (so .ov) (sourceOf sa off x (place m ey x y) i) 0) _
+        (rw (add-zero (sourceOf sa off x (place m ey x y) i), add-zero y) at (brings (r .plan) (r .offs) (cells-less so x (sp .end)) px (sp .end) y 0 i (eight i l)
+        (omega (arith, sp .ends .0)) (omega (arith, sp .ends .1))))
+        (omega (arith, via-le i l, sp .fits));
+    fits = omega (arith, all-of, sp .fits);
+  })
+
+  pub stand-back : (l a c o : ℕ) → l < k → a ≡ getD sa l 0 → c ≡ getD sc l 0 → o ≡ getD off l 0 → getD sa l 0 ≤ x → getD sc l 0 ≤ y → Stand k f sa sc hi m ex ey (x - a) (y - c) (p - o)
+  stand-back l a c o h ea ec eo ha hc = rw (ea, ec, eo) (record {
+    end = omega (arith, sp .end);
+    ends = (omega (arith, sp .ends .0), omega (arith, sp .ends .1, r .plan .steep l (eight l h) (omega (arith, sp .end)), mul-add hi (ex - x) (getD sa l 0), ap (λ (z : ℕ). hi * z) further));
+    at = omega (arith, sp .at, r .offs .is l (eight l h), rows (strideOf m ey) x (getD sa l 0) ha);
+    fits = omega (arith, via-le l h, sp .fits, via-in k f sa sc x y l ha hc);
+  })
+    where
+      further : ex - (x - getD sa l 0) ≡ ex - x + getD sa l 0
+      further = omega (arith, sp .end)
+
+module _ {k f : ℕ} {sa sc off val : List ℕ} {x y p : ℕ} (rd : Reads k f sa sc off val x y p) (i : ℕ) (h : i < k) {s : ℕ} (es : s ≡ sourceOf sa off x p i) where
+  pub read-in : s < length val
+  read-in = omega (arith, rd .in-val i h)
+
+  pub read-is : getD val s 0 ≡ via k f sa sc x y i
+  read-is = ap (λ (j : ℕ). getD val j 0) es ∙ rd .says i h
+
+  pub read-more : {acc : ℕ} → acc ≡ sum (via k f sa sc x y) i → (acc + getD val s 0 ≡ sum (via k f sa sc x y) (i + 1)) × (acc + getD val s 0 < 2 ^ 64)
+  read-more {acc} ea = (
+    omega (arith, sum-more (via k f sa sc x y) i, read-is),
+    omega (arith, sum-more (via k f sa sc x y) i, read-is, sum-mono (via k f sa sc x y) (i + 1) k (omega arith), rd .fits),
+  )
+
+-- ---- the loop of `rank`
+
+pub record Walking (corner few : Bool) (k f : ℕ) (sa sc off : List ℕ) (hi m ex ey : ℕ) (val e : List ℕ) (acc x y p i : ℕ) : Type 0 where
+  pub ranking : Ranking corner few k f sa sc off hi m ex ey val e
+  pub i-le : i ≤ length e
+  pub valid : ok corner k f sa sc e i x y ≡ true
+  pub stand : Stand k f sa sc hi m ex ey x y p
+  pub total : acc + num corner k f sa sc e i x y ≡ numberOf corner k f sa sc ex ey e
+
+pub record Stepped (corner few : Bool) (k f : ℕ) (sa sc off : List ℕ) (hi m ex ey : ℕ) (val e : List ℕ) (acc x y p i l : ℕ) : Type 0 where
+  pub below : l < k
+  pub most : k ≤ 8
+  pub reads : Reads k f sa sc off val x y p
+  pub right : getD sa l 0 ≤ x
+  pub up : getD sc l 0 ≤ y
+  pub far : getD off l 0 ≤ p
+  pub fits : (v : ℕ) → v ≡ sum (via k f sa sc x y) l → acc + v < 2 ^ 64
+  pub next : (v : ℕ) → v ≡ sum (via k f sa sc x y) l → Walking corner few k f sa sc off hi m ex ey val e (acc + v) (x - getD sa l 0) (y - getD sc l 0) (p - getD off l 0) (i - 1)
+
+module _ {corner few : Bool} {k f : ℕ} {sa sc off : List ℕ} {hi m ex ey : ℕ} {val e : List ℕ} where
+  pub walking-start : Ranking corner few k f sa sc off hi m ex ey val e → (p : ℕ) → p ≡ place m ey ex ey → Walking corner few k f sa sc off hi m ex ey val e 0 ex ey p (length e)
+  walking-start rk p ep = record {
+    ranking = rk;
+    i-le = omega arith;
+    valid = ok-all corner k f sa sc e ex ey ∙ rk .valid;
+    stand = record { end = omega arith; ends = (omega arith, omega arith); at = ep; fits = rk .fits };
+    total = omega (arith, num-all corner k f sa sc e ex ey);
+  }
+
+  number-small : Ranking corner few k f sa sc off hi m ex ey val e → numberOf corner k f sa sc ex ey e < 2 ^ 64
+  number-small rk = omega (arith, rk .fits, num-all corner k f sa sc e ex ey, num-below corner k f sa sc e (pos-of (rk .ready .plan)) (length e) ex ey (ok-all corner k f sa sc e ex ey ∙ rk .valid))
+
+  module _ {acc x y p i : ℕ} (w : Walking corner few k f sa sc off hi m ex ey val e acc x y p i) where
+    pub stepped : (l : ℕ) → 0 < i → l ≡ placeOf corner (getD e (i - 1) 0) → Stepped corner few k f sa sc off hi m ex ey val e acc x y p i l
+    stepped l h q = record {
+      below = re .below;
+      most = pl .most;
+      reads = rd;
+      right = re .right;
+      up = re .up;
+      far = rd .back l (re .below) (re .right);
+      fits = λ v ev. omega (arith, w .total, st, number-small (w .ranking));
+      next = λ v ev. record {
+        ranking = w .ranking;
+        i-le = omega (arith, w .i-le);
+        valid = re .rest;
+        stand = stand-back (w .ranking .ready) (w .ranking .solid) (w .stand) px (re .inside) l _ _ _ (re .below) refl refl refl (re .right) (re .up);
+        total = omega (arith, w .total, st);
+      };
+    }
+      where
+        pl : Plan k sa sc hi m ex
+        pl = w .ranking .ready .plan
+
+        re : Read corner k f sa sc e i x y l
+        re = read-of corner k f sa sc e (pos-of pl) i x y l h q (w .valid)
+
+        px : 1 ≤ x
+        px = omega (arith, pos-of pl l (re .below), re .right)
+
+        rd : Reads k f sa sc off val x y p
+        rd = reads-at (w .ranking .ready) (w .ranking .solid) (w .stand) px (re .inside)
+
+        st : num corner k f sa sc e i x y ≡ sum (via k f sa sc x y) l + num corner k f sa sc e (i - 1) (x - getD sa l 0) (y - getD sc l 0)
+        st = num-step corner k f sa sc e (pos-of pl) i x y l h q re
+
+    pub walking-end : i ≤ 0 → acc ≡ numberOf corner k f sa sc ex ey e
+    walking-end h = omega (arith, w .total, num-none corner k f sa sc e i x y h)

@@ -1,0 +1,199 @@
+-- What the functions that fill the table have at each of their places. Assumes nothing.
+--
+--   ready-len                              ready, for another table of that length
+--   first-in, begin-table, begin-small, begin-ready    `fast`, before its loop
+--   slow-fits, none-yet, inside-at, parts-of, part-more, slow-done    `slow`
+--   said                                   `total`, at a step
+--   zeros                                  a table of zeros
+--   turn-none, turn-slow                   `turn`
+--   resume                                 flags put beside a table
+--   flagged-filled, got-filled             a table filled, with flags and without
+--   last-row, end-cells, end-room          the end's cell is there
+use mathlib.Core.Path.{_≡_, refl, sym, ap, _∙_}
+use mathlib.Core.Bool.{Bool, true, false, not}
+use mathlib.Core.List.{List}
+use Prim.Native.Nat.{ℕ, zero, suc, _+_, _*_, _^_, _≤_, _<_}
+use native.Mathlib.Omega.{arith}
+use native.Mathlib.Decide.{decLe, decLt}
+use native.Mathlib.Nat.{add-mul, add-zero}
+use lib.ListN.{length, getD, set, length-set, replicate}
+use lib.Seq.{getD-set-same, getD-set-other}
+use borrow.Author.Tests.{ne-eqb}
+use Rattle.howmany.specs.Sum.{sum}
+use Rattle.grid.specs.declared.Answer.{Answer}
+use Rattle.grid.specs.declared.Answer.the-variants.{Count}
+use Rattle.grid.specs.Form.{W, via}
+use Rattle.grid.specs.Cells.{capOf, cellAt, Put, strideOf, place, sourceOf}
+use Rattle.grid.specs.Table.{Prepared, Ready, From, To, Cells, Table, Flagged, Small}
+use Rattle.grid.specs.Filling.{Begun, Got, Turn, Slow, Part, Parts, Filled}
+use Rattle.grid.proofs.Laws.{W-start, mul-bound, cap-lt, cell-zero}
+use Rattle.grid.proofs.Counts.{pos-of, W-all}
+use Rattle.grid.proofs.Columns.{source-left, source-in, rows, grow, one-more, brings, sheet-next, sheet-same}
+
+pub ready-len : {few : Bool} {k f : ℕ} {sa sc off : List ℕ} {hi m ex ey size size′ : ℕ} → Prepared few k f sa sc off hi m ex ey size → size′ ≡ size → Prepared few k f sa sc off hi m ex ey size′
+ready-len r e = record { sizes = r .sizes; plan = r .plan; offs = r .offs; fewer = r .fewer; room = rw e (r .room) }
+
+-- fast
+
+module _ {few : Bool} {k f : ℕ} {sa sc off : List ℕ} {hi m ex ey : ℕ} {val : List ℕ} (b : Begun few k f sa sc off hi m ex ey val) where
+  two-rows : (ex + 2) * strideOf m ey ≡ ex * strideOf m ey + 2 * strideOf m ey
+  two-rows = add-mul ex 2 (strideOf m ey)
+
+  pub first-in : strideOf m ey + m < length val
+  first-in = omega (arith, b .ready .room, two-rows)
+
+  begin-other : (j : ℕ) → (j ≡ strideOf m ey + m → ⊥) → getD (set val (strideOf m ey + m) 1) j 0 ≡ 0
+  begin-other j h = getD-set-other val (strideOf m ey + m) j 1 0 h ∙ b .zero-at j
+
+  start-off : (y : ℕ) → W k f sa sc 0 (suc y) ≡ 0
+  start-off y = W-start k f sa sc (pos-of (b .ready .plan)) (suc y) ∙ rw (ne-eqb (suc y) 0 (λ q. omega arith))
+
+  begin-at : (y : ℕ) → getD (set val (strideOf m ey + m) 1) (place m ey 0 y) 0 ≡ W k f sa sc 0 y
+  begin-at zero = let e : place m ey 0 0 ≡ strideOf m ey + m = omega arith in rw (e, getD-set-same val (strideOf m ey + m) 1 0 first-in, W-start k f sa sc (pos-of (b .ready .plan)) 0)
+  begin-at (suc y) = begin-other (place m ey 0 (suc y)) (λ q. omega arith) ∙ sym (start-off y)
+
+  pub begin-table : Table k f sa sc hi m ex ey (set val (strideOf m ey + m) 1) 1
+  begin-table = record {
+    cells = record {
+      right = λ u y l en. at-zero u y (omega arith);
+      margin = λ u t l. begin-other (u * strideOf m ey + t) (λ q. not-margin u t l q);
+      front = λ t l. begin-other t (λ q. omega arith);
+    };
+    blank = λ j l. begin-other j (λ q. omega arith);
+  }
+    where
+      at-zero : (u y : ℕ) → u ≡ 0 → getD (set val (strideOf m ey + m) 1) (place m ey u y) 0 ≡ W k f sa sc u y
+      at-zero u y e = rw e (begin-at y)
+
+      not-margin : (u t : ℕ) → t < m → u * strideOf m ey + t ≡ strideOf m ey + m → ⊥
+      not-margin u t l q = elim (decLe u 1) [ yes h ↦ omega (arith, grow (strideOf m ey) u 1 h) | no h ↦ omega (arith, grow (strideOf m ey) 2 u (omega arith)) ]
+
+  pub begin-small : Small k f sa sc hi ex ey 1
+  begin-small = record { small = λ u y l en. at-zero u y (omega arith) }
+    where
+      start-le : (y : ℕ) → W k f sa sc 0 y ≤ 1
+      start-le zero = omega (arith, W-start k f sa sc (pos-of (b .ready .plan)) 0)
+      start-le (suc y) = omega (arith, start-off y)
+
+      at-zero : (u y : ℕ) → u ≡ 0 → W k f sa sc u y ≤ 2305843009213693951
+      at-zero u y e = rw e (omega (arith, start-le y))
+
+  pub begin-ready : Ready few k f sa sc off hi m ex ey (set val (strideOf m ey + m) 1)
+  begin-ready = ready-len (b .ready) (length-set val (strideOf m ey + m) 1)
+
+-- slow
+
+module _ {few : Bool} {k f : ℕ} {sa sc off : List ℕ} {hi m ex ey : ℕ} {val₀ ov₀ : List ℕ} {x from to : ℕ} (s : Slow few k f sa sc off hi m ex ey val₀ ov₀ x from to) where
+  pub slow-fits : (x + 1) * strideOf m ey ≤ 98 * 2001
+  slow-fits = mul-bound (x + 1) (strideOf m ey) 98 2001 (omega (arith, s .turn .end, s .turn .ready .sizes .ex-le)) (omega (arith, s .turn .ready .sizes .m-le, s .turn .ready .sizes .ey-le))
+
+  pub none-yet : Part k f sa sc m ey x from val₀ ov₀ val₀ ov₀ from
+  none-yet = record { before = λ j l. refl; after = λ j l. refl; here = λ t h l. absurd (omega arith) }
+
+  module _ {val ov : List ℕ} {y : ℕ} (p : Part k f sa sc m ey x from val₀ ov₀ val ov y) (lf : from ≤ y) (lt : y < to) where
+    pub inside-at : place m ey x y < (ex + 2) * strideOf m ey
+    inside-at = omega (arith, s .up .under, one-more (strideOf m ey) (x + 1), grow (strideOf m ey) (x + 1 + 1) (ex + 2) (omega (arith, s .turn .end)))
+
+    source-lt : (i : ℕ) → i < 8 → sourceOf sa off x (place m ey x y) i < place m ey x from
+    source-lt i l =
+        elim (decLe (getD sa i 0) x) [
+          | yes ha ↦ rw (source-in sa off x (place m ey x y) i ha)
+              (omega (arith, s .up .under, s .turn .ready .offs .is i l, s .turn .ready .plan .pos i l, grow (strideOf m ey) 1 (getD sa i 0) (s .turn .ready .plan .pos i l), first-row))
+          | no ha ↦ rw (source-left sa off x (place m ey x y) i (omega arith)) (omega (arith, first-row))
+        ]
+      where
+        first-row : strideOf m ey ≤ (x + 1) * strideOf m ey
+        first-row = omega (arith, grow (strideOf m ey) 1 (x + 1) (omega arith))
+
+    pub parts-of : (q : ℕ) → q ≡ place m ey x y → length val ≡ length val₀ → length ov ≡ length ov₀ → Parts k f sa sc off val ov x y q
+    parts-of q e lv lo = rw e (record {
+      back = λ i l ha. omega (arith, s .turn .ready .offs .is i l, s .turn .ready .plan .deep i l (omega (arith, s .turn .end)), rows (strideOf m ey) x (getD sa i 0) ha);
+      in-val = λ i l. omega (arith, source-lt i l, inside-at, s .turn .ready .room);
+      in-ov = λ i l. omega (arith, source-lt i l, inside-at, s .turn .room);
+      says = λ i l. p .before (sourceOf sa off x (place m ey x y) i) (source-lt i l)
+          ∙ rw (add-zero (sourceOf sa off x (place m ey x y) i), add-zero y) at (brings (s .turn .ready .plan) (s .turn .ready .offs) (s .turn .table .cells) (s .turn .start) (s .turn .end) y 0 i l
+          (omega (arith, s .up .under)) (omega (arith, s .fr .ends)));
+    })
+
+    pub part-more : (v′ o′ : List ℕ) (r : Answer) (q : ℕ) → q ≡ place m ey x y → Put val ov v′ o′ q r → r ≡ capOf (sum (via k f sa sc x y) 8) → Part k f sa sc m ey x from val₀ ov₀ v′ o′ (y + 1)
+    part-more v′ o′ r q e pu er = record {
+      before = λ j l. pu .elsewhere j (λ z. omega arith) ∙ p .before j l;
+      after = λ j l. pu .elsewhere j (λ z. omega arith) ∙ p .after j (omega arith);
+      here = λ t h l. elim (decLt t y) [
+        | yes k ↦ pu .elsewhere (place m ey x t) (λ z. omega arith) ∙ p .here t h k
+        | no k ↦ now-at t (omega arith)
+      ];
+    }
+      where
+        now-at : (t : ℕ) → t ≡ y → cellAt v′ o′ (place m ey x t) ≡ capOf (W k f sa sc x t)
+        now-at t z = rw (z, ← e) (pu .here ∙ er ∙ ap capOf (sym (W-all k f sa sc (s .turn .ready .plan) x y (s .turn .end) (s .turn .start) (omega (arith, s .fr .inside)))))
+
+  pub slow-done : {val ov : List ℕ} {y : ℕ} → Part k f sa sc m ey x from val₀ ov₀ val ov y → y ≡ to → Flagged k f sa sc hi m ex ey val ov (x + 1)
+  slow-done {val} {ov} {y} p e =
+      sheet-next (s .turn .ready .plan) (s .turn .ready .offs) (s .turn .table .cells) (s .turn .start) (s .turn .end) from to (s .fr) (s .up) (s .turn .table .blank) (s .lt) (cellAt val ov)
+      (p .before) (λ j l. p .after j (omega arith)) (λ t h l. p .here t h (omega arith))
+
+-- total
+
+pub said : {k f : ℕ} {sa sc off val ov : List ℕ} {x y p : ℕ} → Parts k f sa sc off val ov x y p → (i : ℕ) → i < 8 → {s : ℕ} {r : Answer} → s ≡ sourceOf sa off x p i → r ≡ cellAt val ov s
+    → r ≡ capOf (via k f sa sc x y i)
+said {val = val} {ov = ov} pa i l es er = er ∙ ap (cellAt val ov) es ∙ pa .says i l
+
+pub not-false : (b : Bool) → not b ≡ false → b ≡ true
+not-false true e = refl
+not-false false e = sym e
+
+-- turn and rest
+
+pub zeros : (n j : ℕ) → _≡_ {A = ℕ} (getD (replicate n 0) j 0) 0
+zeros zero j = refl
+zeros (suc n) zero = refl
+zeros (suc n) (suc j) = zeros n j
+
+module _ {few : Bool} {k f : ℕ} {sa sc off : List ℕ} {hi m ex ey : ℕ} {val ov : List ℕ} {x : ℕ} (t : Turn few k f sa sc off hi m ex ey val ov x) {from to : ℕ} (fr : From f hi ex ey x from) (up : To hi ey x to) where
+  pub turn-none : to ≤ from → Flagged k f sa sc hi m ex ey val ov (x + 1)
+  turn-none l = sheet-same (t .ready .plan) (t .ready .offs) (t .table .cells) (t .start) (t .end) from to fr up (t .table .blank) l
+
+  pub turn-slow : from < to → Slow few k f sa sc off hi m ex ey val ov x from to
+  turn-slow l = record { turn = t; fr = fr; up = up; lt = l }
+
+module _ {k f : ℕ} {sa sc : List ℕ} {hi m ex ey : ℕ} (val : List ℕ) {x : ℕ} (r : Table k f sa sc hi m ex ey val x) (fits : (j : ℕ) → getD val j 0 < 2 ^ 64) where
+  unflagged : (j : ℕ) → cellAt val (replicate 7040 0) j ≡ capOf (getD val j 0)
+  unflagged j = cell-zero (getD val j 0) _ (zeros 7040 j) ∙ sym (cap-lt _ (fits j))
+
+  pub resume : Flagged k f sa sc hi m ex ey val (replicate 7040 0) x
+  resume = record {
+    cells = record {
+      right = λ u y l en. unflagged (place m ey u y) ∙ ap capOf (r .cells .right u y l en);
+      margin = λ u t l. unflagged (u * strideOf m ey + t) ∙ ap capOf (r .cells .margin u t l);
+      front = λ t l. unflagged t ∙ ap capOf (r .cells .front t l);
+    };
+    blank = λ j l. unflagged j ∙ ap capOf (r .blank j l);
+  }
+
+  pub resume-cells : Cells capOf (cellAt val (replicate 7040 0)) k f sa sc hi m ex ey x
+  resume-cells = resume .cells
+
+pub last-row : (ex s : ℕ) → (ex + 1) * s + s ≡ (ex + 2) * s
+last-row ex s = let e : ex + 1 + 1 ≡ ex + 2 = omega arith in sym (one-more s (ex + 1)) ∙ ap (λ (z : ℕ). z * s) e
+
+module _ {k f : ℕ} {sa sc : List ℕ} {hi m ex ey : ℕ} (val ov : List ℕ) {x : ℕ} (t : Flagged k f sa sc hi m ex ey val ov x) (e : x ≡ ex + 1) where
+  pub flagged-filled : {r : Answer} {p : ℕ} → r ≡ cellAt val ov p → p ≡ place m ey ex ey → Filled k f sa sc hi m ex ey val r
+  flagged-filled er ep = record {
+    answer = er ∙ ap (cellAt val ov) ep ∙ t .cells .right ex ey (omega arith) (omega arith, omega arith);
+    solid = record { ov = ov; flags = rw e at (t .cells) };
+  }
+
+module _ {k f : ℕ} {sa sc : List ℕ} {hi m ex ey : ℕ} {val : List ℕ} {x : ℕ} (g : Got k f sa sc hi m ex ey val x) (e : x ≡ ex + 1) where
+  pub got-filled : ((j : ℕ) → getD val j 0 < 2 ^ 64) → {v p : ℕ} → v ≡ getD val p 0 → p ≡ place m ey ex ey → Filled k f sa sc hi m ex ey val (Count v)
+  got-filled fits {v} {p} ev ep = record {
+    answer = sym (cap-lt v (omega (arith, fits p))) ∙ ap capOf (ev ∙ ap (λ (j : ℕ). getD val j 0) ep ∙ g .table .cells .right ex ey (omega arith) (omega arith, omega arith));
+    solid = record { ov = replicate 7040 0; flags = rw e at (resume-cells val (g .table) fits) };
+  }
+
+module _ {few : Bool} {k f : ℕ} {sa sc off : List ℕ} {hi m ex ey size : ℕ} (r : Prepared few k f sa sc off hi m ex ey size) where
+  pub end-cells : (ex + 1) * strideOf m ey + strideOf m ey ≤ 7040
+  end-cells = rw (last-row ex (strideOf m ey)) (r .sizes .cells)
+
+  pub end-room : (ex + 1) * strideOf m ey + strideOf m ey ≤ size
+  end-room = rw (last-row ex (strideOf m ey)) (r .room)

@@ -1,0 +1,185 @@
+-- Edges read from their end over the grid of a form. Assumes nothing.
+--
+--   wordTo p e i                the first i letters of e as steps, the last one first
+--   word-all, word-cons, word-none    all of e, one letter, no letters
+--   back-is, back-left, back-under    what a step leads back to
+--   end-in, end-out             the end inside the fence, and beyond it
+--   ok, ok-all                  whether the first i letters lead to (x, y); all of them
+--   ok-out, ok-no-letter, ok-left, ok-under, ok-step    one letter read
+--   ok-end                      no letters left
+--   Checking, checking-start, checking-more, fence-fits, ends-fit, not-.., is-valid    the loop of `valid`
+use mathlib.Core.Path.{_≡_, refl, sym, ap, ap₂, _∙_}
+use mathlib.Core.Bool.{Bool, true, false, _&&_, and-false}
+use mathlib.Core.Option.{none, some}
+use mathlib.Core.List.{List, [], _∷_, _++_, map, reverse, reverse-cons}
+use Prim.Native.Nat.{ℕ, zero, suc, _+_, _-_, _*_, _≤_, _<_}
+use native.Mathlib.Omega.{arith}
+use native.Mathlib.Decide.{decLe}
+use native.Mathlib.Nat.{not-suc-le-zero}
+use lib.Dec.{leb, ltb, eqb, leb→le, le→leb, lt→ltb}
+use lib.ListN.{length, getD}
+use borrow.Author.Tests.{le-leb, lt-leb, ne-eqb, eq-eqb}
+use Rattle.howmany.specs.Choose.{onlyIf}
+use Rattle.howmany.proofs.Choices.{is-true, is-false, only-true, only-none}
+use Rattle.backward.specs.Reader.{valid}
+use Rattle.backward.specs.Grid.{grid}
+use Rattle.backward.proofs.Backward.{valid-stop, valid-no-letter, none-valid}
+use Rattle.backward.proofs.Grids.{grid-lawful}
+use Rattle.grid.specs.Form.{stepsIn, spot, Form}
+use Rattle.grid.specs.Letters.{placeOf}
+use Rattle.grid.specs.Edges.{endOf, isEdge}
+use Rattle.grid.proofs.Laws.{mul-bound}
+
+-- ---- words
+
+unfoldable pub wordTo : (ℕ → ℕ) → List ℕ → ℕ → List ℕ
+wordTo p e zero = []
+wordTo p e (suc i) = p (getD e i 0) ∷ wordTo p e i
+
+word-first : (p : ℕ → ℕ) (a : ℕ) (e : List ℕ) (i : ℕ) → wordTo p (a ∷ e) (suc i) ≡ wordTo p e i ++ (p a ∷ [])
+unfolding wordTo
+word-first p a e zero = refl
+word-first p a e (suc i) = ap (λ (w : List ℕ). p (getD e i 0) ∷ w) (word-first p a e i)
+
+pub word-all : (p : ℕ → ℕ) (e : List ℕ) → wordTo p e (length e) ≡ reverse (map p e)
+unfolding wordTo
+word-all p [] = refl
+word-all p (a ∷ e) = word-first p a e (length e) ∙ ap (λ (w : List ℕ). w ++ (p a ∷ [])) (word-all p e) ∙ sym (reverse-cons (p a) (map p e))
+
+pub word-cons : (p : ℕ → ℕ) (e : List ℕ) (i l : ℕ) → 0 < i → l ≡ p (getD e (i - 1) 0) → wordTo p e i ≡ l ∷ wordTo p e (i - 1)
+unfolding wordTo
+word-cons p e zero l h q = absurd (not-suc-le-zero h)
+word-cons p e (suc i) l h q = let s : suc i - 1 ≡ i = omega arith in let g : l ≡ p (getD e i 0) = rw s at q in rw (s, g)
+
+pub word-none : (p : ℕ → ℕ) (e : List ℕ) (i : ℕ) → i ≤ 0 → wordTo p e i ≡ []
+unfolding wordTo
+word-none p e zero h = refl
+word-none p e (suc i) h = absurd (not-suc-le-zero h)
+
+-- ---- one step back
+
+module _ (k f : ℕ) (sa sc : List ℕ) (x y l : ℕ) where
+  pub back-is : getD sa l 0 ≤ x → getD sc l 0 ≤ y → grid (stepsIn k f sa sc) .back (spot x y) l ≡ endOf k f sa sc (x - getD sa l 0) (y - getD sc l 0)
+  back-is ha hc = rw (le-leb (getD sa l 0) x ha, le-leb (getD sc l 0) y hc)
+
+  pub back-left : x < getD sa l 0 → grid (stepsIn k f sa sc) .back (spot x y) l ≡ none
+  back-left h = rw (lt-leb (getD sa l 0) x h)
+
+  pub back-under : getD sa l 0 ≤ x → y < getD sc l 0 → grid (stepsIn k f sa sc) .back (spot x y) l ≡ none
+  back-under ha h = rw (le-leb (getD sa l 0) x ha, lt-leb (getD sc l 0) y h)
+
+pub end-in : (k f : ℕ) (sa sc : List ℕ) (x y : ℕ) → f * x ≤ y → endOf k f sa sc x y ≡ some (spot x y)
+end-in k f sa sc x y h = only-true (leb (f * x) y) (spot x y) (le→leb (f * x) y h)
+
+pub end-out : (k f : ℕ) (sa sc : List ℕ) (x y : ℕ) → y < f * x → endOf k f sa sc x y ≡ none
+end-out k f sa sc x y h = only-none (leb (f * x) y) (spot x y) (λ t. omega (arith, leb→le (f * x) y t))
+
+-- ---- validity
+
+unfoldable pub ok : Bool → ℕ → ℕ → List ℕ → List ℕ → List ℕ → ℕ → ℕ → ℕ → Bool
+ok corner k f sa sc e i x y = valid (grid (stepsIn k f sa sc)) (wordTo (placeOf corner) e i) (endOf k f sa sc x y)
+
+-- a start that is allowed is the only word of no letters
+none-left : (k f : ℕ) (sa sc : List ℕ) (b : Bool) (x y : ℕ) → valid (grid (stepsIn k f sa sc)) [] (onlyIf b (spot x y)) ≡ b && (eqb x 0 && eqb y 0)
+unfolding valid
+none-left k f sa sc true x y = refl
+none-left k f sa sc false x y = refl
+
+module _ (corner : Bool) (k f : ℕ) (sa sc e : List ℕ) where
+  pub ok-all : (x y : ℕ) → ok corner k f sa sc e (length e) x y ≡ isEdge corner k f sa sc x y e
+  unfolding ok isEdge
+  ok-all x y = ap (λ (w : List ℕ). valid (grid (stepsIn k f sa sc)) w (endOf k f sa sc x y)) (word-all (placeOf corner) e)
+
+  module _ (i x y : ℕ) (h : i ≤ 0) where
+    ok-none : ok corner k f sa sc e i x y ≡ leb (f * x) y && (eqb x 0 && eqb y 0)
+    unfolding ok
+    ok-none = ap (λ (w : List ℕ). valid (grid (stepsIn k f sa sc)) w (endOf k f sa sc x y)) (word-none (placeOf corner) e i h) ∙ none-left k f sa sc (leb (f * x) y) x y
+
+    ok-far : (x ≤ 0 → ⊥) → ok corner k f sa sc e i x y ≡ false
+    ok-far n = ok-none ∙ rw (ne-eqb x 0 (λ q. n (omega arith))) (and-false (leb (f * x) y))
+
+    ok-high : x ≤ 0 → (y ≤ 0 → ⊥) → ok corner k f sa sc e i x y ≡ false
+    ok-high z n = ok-none ∙ rw (ne-eqb y 0 (λ q. n (omega arith)), eq-eqb x 0 (omega arith)) (and-false (leb (f * x) y))
+
+    ok-start : x ≡ 0 → y ≡ 0 → ok corner k f sa sc e i x y ≡ true
+    ok-start z n = ok-none ∙ rw (z, n, le-leb (f * 0) 0 (omega arith)) refl
+
+    pub ok-end : eqb (x + y) 0 ≡ ok corner k f sa sc e i x y
+    ok-end =
+        elim (decLe x 0) [
+          | yes z ↦ elim (decLe y 0) [ yes n ↦ eq-eqb (x + y) 0 (omega arith) ∙ sym (ok-start (omega arith) (omega arith)) | no n ↦ ne-eqb (x + y) 0 (λ q. omega arith) ∙ sym (ok-high z n) ]
+          | no z ↦ ne-eqb (x + y) 0 (λ q. omega arith) ∙ sym (ok-far z)
+        ]
+
+  module _ (pos : (i : ℕ) → i < k → 1 ≤ getD sa i 0) (i x y l : ℕ) (h : 0 < i) (q : l ≡ placeOf corner (getD e (i - 1) 0)) where
+    ok-cons : ok corner k f sa sc e i x y ≡ valid (grid (stepsIn k f sa sc)) (l ∷ wordTo (placeOf corner) e (i - 1)) (endOf k f sa sc x y)
+    unfolding ok
+    ok-cons = ap (λ (w : List ℕ). valid (grid (stepsIn k f sa sc)) w (endOf k f sa sc x y)) (word-cons (placeOf corner) e i l h q)
+
+    pub ok-out : y < f * x → ok corner k f sa sc e i x y ≡ false
+    ok-out o =
+        ok-cons ∙ ap (valid (grid (stepsIn k f sa sc)) (l ∷ wordTo (placeOf corner) e (i - 1))) (end-out k f sa sc x y o)
+        ∙ is-false (valid (grid (stepsIn k f sa sc)) (l ∷ wordTo (placeOf corner) e (i - 1)) none) (none-valid (grid (stepsIn k f sa sc)) (grid-lawful (stepsIn k f sa sc) pos) (l ∷ wordTo (placeOf corner) e (i - 1)))
+
+    module _ (n : f * x ≤ y) where
+      ok-some : ok corner k f sa sc e i x y ≡ valid (grid (stepsIn k f sa sc)) (l ∷ wordTo (placeOf corner) e (i - 1)) (some (spot x y))
+      ok-some = ok-cons ∙ ap (valid (grid (stepsIn k f sa sc)) (l ∷ wordTo (placeOf corner) e (i - 1))) (end-in k f sa sc x y n)
+
+      pub ok-no-letter : k ≤ l → ok corner k f sa sc e i x y ≡ false
+      ok-no-letter o = ok-some ∙ valid-no-letter (grid (stepsIn k f sa sc)) l (wordTo (placeOf corner) e (i - 1)) (spot x y) o
+
+      pub ok-left : x < getD sa l 0 → ok corner k f sa sc e i x y ≡ false
+      ok-left o = ok-some ∙ valid-stop (grid (stepsIn k f sa sc)) l (wordTo (placeOf corner) e (i - 1)) (spot x y) (back-left k f sa sc x y l o)
+
+      pub ok-under : getD sa l 0 ≤ x → y < getD sc l 0 → ok corner k f sa sc e i x y ≡ false
+      ok-under a o = ok-some ∙ valid-stop (grid (stepsIn k f sa sc)) l (wordTo (placeOf corner) e (i - 1)) (spot x y) (back-under k f sa sc x y l a o)
+
+      pub ok-step : l < k → getD sa l 0 ≤ x → getD sc l 0 ≤ y → ok corner k f sa sc e i x y ≡ ok corner k f sa sc e (i - 1) (x - getD sa l 0) (y - getD sc l 0)
+      unfolding ok valid
+      ok-step b a c =
+          ok-some ∙ ap₂ _&&_ (is-true (ltb l k) (lt→ltb l k b)) (ap (valid (grid (stepsIn k f sa sc)) (wordTo (placeOf corner) e (i - 1))) (back-is k f sa sc x y l a c))
+
+-- ---- the loop of `valid`
+
+pub record Checking (corner : Bool) (k f : ℕ) (sa sc : List ℕ) (top ex ey : ℕ) (e : List ℕ) (x y i : ℕ) : Type 0 where
+  pub form : Form k f sa sc top ex ey
+  pub x-le : x ≤ ex
+  pub y-le : y ≤ ey
+  pub i-le : i ≤ length e
+  pub same : ok corner k f sa sc e i x y ≡ isEdge corner k f sa sc ex ey e
+
+pub checking-start : {corner : Bool} {k f : ℕ} {sa sc : List ℕ} {top ex ey : ℕ} {e : List ℕ} → Form k f sa sc top ex ey → Checking corner k f sa sc top ex ey e ex ey (length e)
+checking-start {corner} {k} {f} {sa} {sc} {top} {ex} {ey} {e} fo = record { form = fo; x-le = omega arith; y-le = omega arith; i-le = omega arith; same = ok-all corner k f sa sc e ex ey }
+
+module _ {corner : Bool} {k f : ℕ} {sa sc : List ℕ} {top ex ey : ℕ} {e : List ℕ} {x y i : ℕ} (ch : Checking corner k f sa sc top ex ey e x y i) where
+  pub fence-fits : f * x ≤ 3 * 97
+  fence-fits = mul-bound f x 3 97 (ch .form .f-le) (omega (arith, ch .x-le, ch .form .ex-le))
+
+  module _ (h : 0 < i) {l : ℕ} (q : l ≡ placeOf corner (getD e (i - 1) 0)) where
+    pub not-inside : y < f * x → false ≡ isEdge corner k f sa sc ex ey e
+    not-inside o = sym (ok-out corner k f sa sc e (ch .form .ahead) i x y l h q o) ∙ ch .same
+
+    module _ (n : f * x ≤ y) where
+      pub not-letter : k ≤ l → false ≡ isEdge corner k f sa sc ex ey e
+      not-letter o = sym (ok-no-letter corner k f sa sc e (ch .form .ahead) i x y l h q n o) ∙ ch .same
+
+      pub not-right : x < getD sa l 0 → false ≡ isEdge corner k f sa sc ex ey e
+      not-right o = sym (ok-left corner k f sa sc e (ch .form .ahead) i x y l h q n o) ∙ ch .same
+
+      pub not-up : getD sa l 0 ≤ x → y < getD sc l 0 → false ≡ isEdge corner k f sa sc ex ey e
+      not-up a o = sym (ok-under corner k f sa sc e (ch .form .ahead) i x y l h q n a o) ∙ ch .same
+
+      pub checking-more : l < k → getD sa l 0 ≤ x → getD sc l 0 ≤ y → Checking corner k f sa sc top ex ey e (x - getD sa l 0) (y - getD sc l 0) (i - 1)
+      checking-more b a c = record {
+        form = ch .form;
+        x-le = omega (arith, ch .x-le);
+        y-le = omega (arith, ch .y-le);
+        i-le = omega (arith, ch .i-le);
+        same = sym (ok-step corner k f sa sc e (ch .form .ahead) i x y l h q n b a c) ∙ ch .same;
+      }
+
+  pub ends-fit : x + y ≤ 97 + 192
+  ends-fit = omega (arith, ch .x-le, ch .y-le, ch .form .ex-le, ch .form .ey-le)
+
+  pub is-valid : i ≤ 0 → eqb (x + y) 0 ≡ isEdge corner k f sa sc ex ey e
+  is-valid h = ok-end corner k f sa sc e i x y h ∙ ch .same

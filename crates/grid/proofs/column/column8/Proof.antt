@@ -1,0 +1,215 @@
+use Prim.Native.Nat.{_+_, _≤_, _<_, _-_, _*_, _^_}
+use mathlib.Core.Path.{_≡_, refl}
+use native.Mathlib.Omega.{arith}
+use borrow.Author.Needs.{needs}
+use lib.ListN.{length, length-set}
+use Rattle.grid.specs.Cells.{Run, Column}
+use Rattle.grid.proofs.Sums.{Sources8, sum8, column-none, column-more, column-at}
+use Rattle.grid.proofs.column.column8.Statement.{statement}
+use Rattle.grid.proofs.column.column8.Tie as tie
+
+abbrev Inv-loop : tie.InvT-loop
+Inv-loop val₀ sa off x d n s0 s1 s2 s3 s4 s5 s6 s7 i₀ val i =
+    (i ≤ n) × (length val ≡ length val₀) × (d + n ≤ length val₀) × Sources8 sa off x d n s0 s1 s2 s3 s4 s5 s6 s7 × Run 8 val₀ sa off x d n × Column 8 val₀ val sa off x d i × ((d + n) * 8 < 2 ^ 64)
+
+abbrev μ-loop : tie.MeasureT-loop
+μ-loop val₀ sa off x d n s0 s1 s2 s3 s4 s5 s6 s7 i₀ val i = n - i
+
+source-requires : tie.Need-source-requires Inv-loop μ-loop
+source-requires c κs = (omega arith, c .before .pre .back 0 (omega arith))
+
+source-requires-2 : tie.Need-source-requires-2 Inv-loop μ-loop
+source-requires-2 c κs = (omega arith, c .before .before .pre .back 1 (omega arith))
+
+source-requires-3 : tie.Need-source-requires-3 Inv-loop μ-loop
+source-requires-3 c κs = (omega arith, c .before .before .before .pre .back 2 (omega arith))
+
+source-requires-4 : tie.Need-source-requires-4 Inv-loop μ-loop
+source-requires-4 c κs = (omega arith, c .before .before .before .before .pre .back 3 (omega arith))
+
+source-requires-5 : tie.Need-source-requires-5 Inv-loop μ-loop
+source-requires-5 c κs = (omega arith, c .before .before .before .before .before .pre .back 4 (omega arith))
+
+source-requires-6 : tie.Need-source-requires-6 Inv-loop μ-loop
+source-requires-6 c κs = (omega arith, c .before .before .before .before .before .before .pre .back 5 (omega arith))
+
+source-requires-7 : tie.Need-source-requires-7 Inv-loop μ-loop
+source-requires-7 c κs = (omega arith, c .before .before .before .before .before .before .before .pre .back 6 (omega arith))
+
+source-requires-8 : tie.Need-source-requires-8 Inv-loop μ-loop
+source-requires-8 c κs = (omega arith, c .before .before .before .before .before .before .before .before .pre .back 7 (omega arith))
+
+loop-holds : tie.Need-loop-holds Inv-loop μ-loop
+loop-holds c = (omega arith, refl, c .before .before .before .before .before .before .before .before .before .pre .inside, record { is0 = c .before .before .before .before .before .before .before .source .ensures; end0 = omega (arith, c .before .before .before .before .before .before .before .before .before .pre .apart 0 (omega arith), c .before .before .before .before .before .before .before .source .ensures); is1 = c .before .before .before .before .before .before .source2 .ensures; end1 = omega (arith, c .before .before .before .before .before .before .before .before .before .pre .apart 1 (omega arith), c .before .before .before .before .before .before .source2 .ensures); is2 = c .before .before .before .before .before .source3 .ensures; end2 = omega (arith, c .before .before .before .before .before .before .before .before .before .pre .apart 2 (omega arith), c .before .before .before .before .before .source3 .ensures); is3 = c .before .before .before .before .source4 .ensures; end3 = omega (arith, c .before .before .before .before .before .before .before .before .before .pre .apart 3 (omega arith), c .before .before .before .before .source4 .ensures); is4 = c .before .before .before .source5 .ensures; end4 = omega (arith, c .before .before .before .before .before .before .before .before .before .pre .apart 4 (omega arith), c .before .before .before .source5 .ensures); is5 = c .before .before .source6 .ensures; end5 = omega (arith, c .before .before .before .before .before .before .before .before .before .pre .apart 5 (omega arith), c .before .before .source6 .ensures); is6 = c .before .source7 .ensures; end6 = omega (arith, c .before .before .before .before .before .before .before .before .before .pre .apart 6 (omega arith), c .before .source7 .ensures); is7 = c .source8 .ensures; end7 = omega (arith, c .before .before .before .before .before .before .before .before .before .pre .apart 7 (omega arith), c .source8 .ensures) }, c .before .before .before .before .before .before .before .before .before .pre, column-none _ _ _ _ _ _, omega (arith, c .before .before .before .before .before .before .before .before .before .pre .inside))
+
+add-val : tie.Need-add-val Inv-loop μ-loop
+add-val c = omega arith
+
+mul-val : tie.Need-mul-val Inv-loop μ-loop
+mul-val c = omega arith
+
+slice-read-val : tie.Need-slice-read-val Inv-loop μ-loop
+slice-read-val c = omega arith
+
+add-val-2 : tie.Need-add-val-2 Inv-loop μ-loop
+add-val-2 c = omega arith
+
+mul-val-2 : tie.Need-mul-val-2 Inv-loop μ-loop
+mul-val-2 c = omega arith
+
+slice-read-val-2 : tie.Need-slice-read-val-2 Inv-loop μ-loop
+slice-read-val-2 c = omega arith
+
+add-val-3 : tie.Need-add-val-3 Inv-loop μ-loop
+add-val-3 c = omega (arith, sum8 (c .before .before .before .loop .inv .5) (c .before .before .loop-test .taken) (c .before .before .before .loop .inv .3) (c .before .before .before .loop .inv .4) .1)
+
+add-val-4 : tie.Need-add-val-4 Inv-loop μ-loop
+add-val-4 c = omega arith
+
+mul-val-3 : tie.Need-mul-val-3 Inv-loop μ-loop
+mul-val-3 c = omega arith
+
+slice-read-val-3 : tie.Need-slice-read-val-3 Inv-loop μ-loop
+slice-read-val-3 c = omega arith
+
+add-val-5 : tie.Need-add-val-5 Inv-loop μ-loop
+add-val-5 c = omega (arith, sum8 (c .before .before .before .before .loop .inv .5) (c .before .before .before .loop-test .taken) (c .before .before .before .before .loop .inv .3) (c .before .before .before .before .loop .inv .4) .1)
+
+add-val-6 : tie.Need-add-val-6 Inv-loop μ-loop
+add-val-6 c = omega arith
+
+mul-val-4 : tie.Need-mul-val-4 Inv-loop μ-loop
+mul-val-4 c = omega arith
+
+slice-read-val-4 : tie.Need-slice-read-val-4 Inv-loop μ-loop
+slice-read-val-4 c = omega arith
+
+add-val-7 : tie.Need-add-val-7 Inv-loop μ-loop
+add-val-7 c = omega (arith, sum8 (c .before .before .before .before .before .loop .inv .5) (c .before .before .before .before .loop-test .taken) (c .before .before .before .before .before .loop .inv .3) (c .before .before .before .before .before .loop .inv .4) .1)
+
+add-val-8 : tie.Need-add-val-8 Inv-loop μ-loop
+add-val-8 c = let h = c .before .before .before .before .before .loop .inv .6 in let g = c .before .before .before .before .loop-test .taken in omega arith
+
+mul-val-5 : tie.Need-mul-val-5 Inv-loop μ-loop
+mul-val-5 c = omega arith
+
+slice-read-val-5 : tie.Need-slice-read-val-5 Inv-loop μ-loop
+slice-read-val-5 c = omega arith
+
+add-val-9 : tie.Need-add-val-9 Inv-loop μ-loop
+add-val-9 c = omega (arith, sum8 (c .before .before .before .before .before .before .loop .inv .5) (c .before .before .before .before .before .loop-test .taken) (c .before .before .before .before .before .before .loop .inv .3) (c .before .before .before .before .before .before .loop .inv .4) .1)
+
+add-val-10 : tie.Need-add-val-10 Inv-loop μ-loop
+add-val-10 c = let h = c .before .before .before .before .before .before .loop .inv .6 in let g = c .before .before .before .before .before .loop-test .taken in omega arith
+
+mul-val-6 : tie.Need-mul-val-6 Inv-loop μ-loop
+mul-val-6 c = omega arith
+
+slice-read-val-6 : tie.Need-slice-read-val-6 Inv-loop μ-loop
+slice-read-val-6 c = omega arith
+
+add-val-11 : tie.Need-add-val-11 Inv-loop μ-loop
+add-val-11 c = omega (arith, sum8 (c .before .before .before .before .before .before .before .loop .inv .5) (c .before .before .before .before .before .before .loop-test .taken) (c .before .before .before .before .before .before .before .loop .inv .3) (c .before .before .before .before .before .before .before .loop .inv .4) .1)
+
+add-val-12 : tie.Need-add-val-12 Inv-loop μ-loop
+add-val-12 c = let h = c .before .before .before .before .before .before .before .loop .inv .6 in let g = c .before .before .before .before .before .before .loop-test .taken in omega arith
+
+mul-val-7 : tie.Need-mul-val-7 Inv-loop μ-loop
+mul-val-7 c = omega arith
+
+slice-read-val-7 : tie.Need-slice-read-val-7 Inv-loop μ-loop
+slice-read-val-7 c = omega arith
+
+add-val-13 : tie.Need-add-val-13 Inv-loop μ-loop
+add-val-13 c = omega (arith, sum8 (c .before .before .before .before .before .before .before .before .loop .inv .5) (c .before .before .before .before .before .before .before .loop-test .taken) (c .before .before .before .before .before .before .before .before .loop .inv .3) (c .before .before .before .before .before .before .before .before .loop .inv .4) .1)
+
+add-val-14 : tie.Need-add-val-14 Inv-loop μ-loop
+add-val-14 c = let h = c .before .before .before .before .before .before .before .before .loop .inv .6 in let g = c .before .before .before .before .before .before .before .loop-test .taken in omega arith
+
+mul-val-8 : tie.Need-mul-val-8 Inv-loop μ-loop
+mul-val-8 c = omega arith
+
+slice-read-val-8 : tie.Need-slice-read-val-8 Inv-loop μ-loop
+slice-read-val-8 c = omega arith
+
+add-val-15 : tie.Need-add-val-15 Inv-loop μ-loop
+add-val-15 c = omega (arith, sum8 (c .before .before .before .before .before .before .before .before .before .loop .inv .5) (c .before .before .before .before .before .before .before .before .loop-test .taken) (c .before .before .before .before .before .before .before .before .before .loop .inv .3) (c .before .before .before .before .before .before .before .before .before .loop .inv .4) .1)
+
+add-val-16 : tie.Need-add-val-16 Inv-loop μ-loop
+add-val-16 c = let h = c .before .before .before .before .before .before .before .before .before .loop .inv .6 in let g = c .before .before .before .before .before .before .before .before .loop-test .taken in omega arith
+
+mul-val-9 : tie.Need-mul-val-9 Inv-loop μ-loop
+mul-val-9 c = omega arith
+
+slice-write-val : tie.Need-slice-write-val Inv-loop μ-loop
+slice-write-val c = omega arith
+
+add-i : tie.Need-add-i Inv-loop μ-loop
+add-i c = omega arith
+
+loop-less : tie.Need-loop-less Inv-loop μ-loop
+loop-less c = omega arith
+
+loop-again : tie.Need-loop-again Inv-loop μ-loop
+loop-again c = (omega arith, simp length-set (c .before .before .before .before .before .before .before .before .before .loop .inv .1), c .before .before .before .before .before .before .before .before .before .loop .inv .2, c .before .before .before .before .before .before .before .before .before .loop .inv .3, c .before .before .before .before .before .before .before .before .before .loop .inv .4, column-more _ _ _ _ _ _ _ _ _ _ (c .before .before .before .before .before .before .before .before .before .loop .inv .5) refl (omega arith) (sum8 (c .before .before .before .before .before .before .before .before .before .loop .inv .5) (c .before .before .before .before .before .before .before .before .loop-test .taken) (c .before .before .before .before .before .before .before .before .before .loop .inv .3) (c .before .before .before .before .before .before .before .before .before .loop .inv .4) .0), c .before .before .before .before .before .before .before .before .before .loop .inv .6)
+
+same-length : tie.Need-same-length Inv-loop μ-loop
+same-length c = search needs
+
+returns : tie.Need-returns Inv-loop μ-loop
+returns c = column-at _ _ _ _ _ _ _ _ _ (c .before .loop .inv .5) (omega arith)
+
+pub column8-spec : {M : Type 1} → statement M
+column8-spec =
+    tie.close
+    (tie.spec
+    Inv-loop
+    μ-loop
+    source-requires
+    source-requires-2
+    source-requires-3
+    source-requires-4
+    source-requires-5
+    source-requires-6
+    source-requires-7
+    source-requires-8
+    loop-holds
+    add-val
+    mul-val
+    slice-read-val
+    add-val-2
+    mul-val-2
+    slice-read-val-2
+    add-val-3
+    add-val-4
+    mul-val-3
+    slice-read-val-3
+    add-val-5
+    add-val-6
+    mul-val-4
+    slice-read-val-4
+    add-val-7
+    add-val-8
+    mul-val-5
+    slice-read-val-5
+    add-val-9
+    add-val-10
+    mul-val-6
+    slice-read-val-6
+    add-val-11
+    add-val-12
+    mul-val-7
+    slice-read-val-7
+    add-val-13
+    add-val-14
+    mul-val-8
+    slice-read-val-8
+    add-val-15
+    add-val-16
+    mul-val-9
+    slice-write-val
+    add-i
+    loop-less
+    loop-again
+    same-length
+    returns)

@@ -1,0 +1,41 @@
+use borrow.Author.Needs.{needs}
+use native.Mathlib.Omega.{arith}
+use borrow.Author.Tests.{lt-ltb, le-ltb}
+use Rattle.grid.specs.Cells.{sourceOf}
+use Rattle.grid.proofs.column.source.Statement.{statement}
+use Rattle.grid.proofs.column.source.Tie as tie
+
+mul-if1 : tie.Need-mul-if1
+mul-if1 c = search needs
+
+element-copy-out-if1 : tie.Need-element-copy-out-if1
+element-copy-out-if1 c = search needs
+
+mul-result : tie.Need-mul-result
+mul-result c = search needs
+
+element-copy-out-result : tie.Need-element-copy-out-result
+element-copy-out-result c = search needs
+
+sub-result : tie.Need-sub-result
+sub-result c = omega (arith, c .before .before .before .pre .1 (omega arith))
+
+returns : tie.Need-returns
+unfolding sourceOf
+returns c = rw (lt-ltb _ _ (c .if1 .taken))
+
+returns-2 : tie.Need-returns-2
+unfolding sourceOf
+returns-2 c = rw (le-ltb _ _ (c .before .if1 .left))
+
+pub source-spec : {M : Type 1} → statement M
+source-spec =
+    tie.close
+    (tie.spec
+    mul-if1
+    element-copy-out-if1
+    mul-result
+    element-copy-out-result
+    sub-result
+    returns
+    returns-2)

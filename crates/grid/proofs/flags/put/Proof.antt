@@ -1,0 +1,67 @@
+use mathlib.Core.Path.{_∙_, sym, refl}
+use native.Mathlib.Omega.{arith}
+use Rattle.grid.proofs.Laws.{cell-zero, cell-over, put-is}
+use borrow.Author.Needs.{needs}
+use Rattle.grid.proofs.flags.put.Statement.{statement}
+use Rattle.grid.proofs.flags.put.Tie as tie
+
+enum-known-r : tie.Need-enum-known-r
+enum-known-r c = search needs
+
+mul-val : tie.Need-mul-val
+mul-val c = search needs
+
+slice-write-val : tie.Need-slice-write-val
+slice-write-val c = search needs
+
+slice-write-ov : tie.Need-slice-write-ov
+slice-write-ov c = search needs
+
+enum-told : tie.Need-enum-told
+enum-told c = search needs
+
+mul-val-2 : tie.Need-mul-val-2
+mul-val-2 c = search needs
+
+slice-write-val-2 : tie.Need-slice-write-val-2
+slice-write-val-2 c = search needs
+
+slice-write-ov-2 : tie.Need-slice-write-ov-2
+slice-write-ov-2 c = search needs
+
+same-length : tie.Need-same-length
+same-length c = search needs
+
+same-length-2 : tie.Need-same-length-2
+same-length-2 c = search needs
+
+returns : tie.Need-returns
+returns c = put-is _ _ _ _ _ _ (search needs) (search needs) (cell-zero _ _ refl ∙ sym (c .before .r .given .1))
+
+same-length-3 : tie.Need-same-length-3
+same-length-3 c = search needs
+
+same-length-4 : tie.Need-same-length-4
+same-length-4 c = search needs
+
+returns-2 : tie.Need-returns-2
+returns-2 c = put-is _ _ _ _ _ _ (search needs) (search needs) (cell-over _ _ (λ q. omega arith) ∙ sym (c .enum-told .given .1))
+
+pub put-spec : {M : Type 1} → statement M
+put-spec =
+    tie.close
+    (tie.spec
+    enum-known-r
+    mul-val
+    slice-write-val
+    slice-write-ov
+    enum-told
+    mul-val-2
+    slice-write-val-2
+    slice-write-ov-2
+    same-length
+    same-length-2
+    returns
+    same-length-3
+    same-length-4
+    returns-2)

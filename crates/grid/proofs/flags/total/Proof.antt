@@ -1,0 +1,76 @@
+use mathlib.Core.Path.{_≡_, refl}
+use Prim.Native.Nat.{_≤_, _-_, _^_, _<_}
+use native.Mathlib.Omega.{arith}
+use borrow.Author.Needs.{needs}
+use Rattle.howmany.specs.Sum.{sum}
+use Rattle.grid.specs.Form.{via}
+use Rattle.grid.proofs.Laws.{total-done, total-over, total-more, total-wraps}
+use Rattle.grid.proofs.Phases.{said}
+use Rattle.grid.proofs.flags.total.Statement.{statement}
+use Rattle.grid.proofs.flags.total.Tie as tie
+
+abbrev Inv-loop : tie.InvT-loop
+Inv-loop val ov sa sc off k f x y p acc₀ i₀ acc i = (i ≤ 8) × (acc < 2 ^ 64) × (acc ≡ sum (via k f sa sc x y) i)
+
+abbrev μ-loop : tie.MeasureT-loop
+μ-loop val ov sa sc off k f x y p acc₀ i₀ acc i = 8 - i
+
+loop-holds : tie.Need-loop-holds Inv-loop μ-loop
+unfolding sum
+loop-holds c = (omega arith, omega arith, refl)
+
+source-requires : tie.Need-source-requires Inv-loop μ-loop
+source-requires c κs = (omega arith, c .before .before .before .before .pre .back _ (omega arith))
+
+cell-requires : tie.Need-cell-requires Inv-loop μ-loop
+cell-requires c κs = (omega (arith, c .source .ensures, c .before .before .before .before .before .pre .in-val (c .before .before .loop .i) (omega arith)), omega (arith, c .source .ensures, c .before .before .before .before .before .pre .in-ov (c .before .before .loop .i) (omega arith)))
+
+enum-known-a : tie.Need-enum-known-a Inv-loop μ-loop
+enum-known-a c = search needs
+
+enum-told : tie.Need-enum-told Inv-loop μ-loop
+enum-told c = search needs
+
+returns : tie.Need-returns Inv-loop μ-loop
+returns c = total-over _ _ _ _ (c .before .before .before .before .before .loop .inv .2) (c .before .before .before .before .loop-test .taken) _ (said (c .before .before .before .before .before .before .before .before .pre) _ (c .before .before .before .before .loop-test .taken) (c .before .before .before .source .ensures) (c .before .before .cell .ensures)) (c .enum-told .given .1)
+
+sub-if1 : tie.Need-sub-if1 Inv-loop μ-loop
+sub-if1 c = omega arith
+
+returns-2 : tie.Need-returns-2 Inv-loop μ-loop
+returns-2 c = total-wraps _ _ _ _ (c .before .before .before .before .before .before .before .loop .inv .2) (c .before .before .before .before .before .before .loop-test .taken) _ (said (c .before .before .before .before .before .before .before .before .before .before .pre) _ (c .before .before .before .before .before .before .loop-test .taken) (c .before .before .before .before .before .source .ensures) (c .before .before .before .before .cell .ensures)) _ (c .before .before .a .given .1) (c .if1 .taken)
+
+add-acc : tie.Need-add-acc Inv-loop μ-loop
+add-acc c = omega arith
+
+add-i : tie.Need-add-i Inv-loop μ-loop
+add-i c = omega arith
+
+loop-less : tie.Need-loop-less Inv-loop μ-loop
+loop-less c = omega arith
+
+loop-again : tie.Need-loop-again Inv-loop μ-loop
+loop-again c = (omega arith, omega arith, total-more _ _ _ _ (c .before .before .before .before .before .before .before .loop .inv .2) (c .before .before .before .before .before .before .loop-test .taken) _ (said (c .before .before .before .before .before .before .before .before .before .before .pre) _ (c .before .before .before .before .before .before .loop-test .taken) (c .before .before .before .before .before .source .ensures) (c .before .before .before .before .cell .ensures)) _ (c .before .before .a .given .1))
+
+returns-3 : tie.Need-returns-3 Inv-loop μ-loop
+returns-3 c = total-done _ _ _ _ (c .before .loop .inv .2) (c .before .loop .inv .0) (c .loop-test .left) (c .before .loop .inv .1)
+
+pub total-spec : {M : Type 1} → statement M
+total-spec =
+    tie.close
+    (tie.spec
+    Inv-loop
+    μ-loop
+    loop-holds
+    source-requires
+    cell-requires
+    enum-known-a
+    enum-told
+    returns
+    sub-if1
+    returns-2
+    add-acc
+    add-i
+    loop-less
+    loop-again
+    returns-3)

@@ -1,0 +1,16 @@
+-- `grid::shape::corner_state` meets its contract: each return by the tests that led there. Assumes nothing.
+use borrow.Author.Tests.{lt-ltb, le-ltb}
+use Rattle.grid.proofs.shape.corner_state.Statement.{statement}
+use Rattle.grid.proofs.shape.corner_state.Tie as tie
+
+returns : tie.Need-returns
+returns c = simp (le-ltb _ _ (c .if1 .taken))
+
+returns-2 : tie.Need-returns-2
+returns-2 c = simp (lt-ltb _ _ (c .before .if1 .left), le-ltb _ _ (c .if2 .taken))
+
+returns-3 : tie.Need-returns-3
+returns-3 c = simp (lt-ltb _ _ (c .before .if1 .left), lt-ltb _ _ (c .if2 .left))
+
+pub corner-state-spec : {M : Type 1} → statement M
+corner-state-spec = tie.close (tie.spec returns returns-2 returns-3)

@@ -1,0 +1,87 @@
+use mathlib.Core.Path.{_≡_, refl}
+use Prim.Native.Nat.{_+_, _≤_, _-_}
+use native.Mathlib.Omega.{arith}
+use borrow.Author.Needs.{needs}
+use lib.ListN.{length}
+use Rattle.grid.specs.Table.{Ready, Flagged}
+use Rattle.grid.proofs.Phases.{ready-len, resume, flagged-filled, end-cells, end-room}
+use Rattle.grid.proofs.table.rest.Statement.{statement}
+use Rattle.grid.proofs.table.rest.Tie as tie
+
+abbrev Inv-loop : tie.InvT-loop
+Inv-loop val₀ sa sc off few k f hi m ex ey first ov₀ x₀ val ov x =
+    (1 ≤ x) × (x ≤ ex + 1) × (length val ≡ length val₀) × (length ov ≡ 7040) × Ready few k f sa sc off hi m ex ey val × Flagged k f sa sc hi m ex ey val ov x
+
+abbrev μ-loop : tie.MeasureT-loop
+μ-loop val₀ sa sc off few k f hi m ex ey first ov₀ x₀ val ov x = ex + 1 - x
+
+loop-holds : tie.Need-loop-holds Inv-loop μ-loop
+loop-holds c = (c .before .pre .start, omega (arith, c .before .pre .end), refl, refl, c .before .pre .ready, resume (c .before .args .val .now) (c .before .pre .table) (λ j. omega (arith, c .slice-known .given j)))
+
+slice-aggregate-turn : tie.Need-slice-aggregate-turn Inv-loop μ-loop
+slice-aggregate-turn c = search needs
+
+turn-requires : tie.Need-turn-requires Inv-loop μ-loop
+turn-requires c κs = record { ready = c .before .before .before .loop .inv .4; room = omega (arith, c .before .before .before .loop .inv .4 .sizes .cells); table = c .before .before .before .loop .inv .5; start = c .before .before .before .loop .inv .0; end = c .before .before .loop-test .taken }
+
+add-x : tie.Need-add-x Inv-loop μ-loop
+add-x c = let p = c .before .before .before .before .before .before .before .loop .inv .4 .sizes in omega arith
+
+loop-less : tie.Need-loop-less Inv-loop μ-loop
+loop-less c = omega arith
+
+loop-again : tie.Need-loop-again Inv-loop μ-loop
+loop-again c = (omega arith, omega arith, omega arith, omega arith, ready-len (c .before .before .before .before .before .before .before .loop .inv .4) (omega arith), c .before .before .before .turn .ensures)
+
+slice-aggregate-cell : tie.Need-slice-aggregate-cell Inv-loop μ-loop
+slice-aggregate-cell c = search needs
+
+add-cell : tie.Need-add-cell Inv-loop μ-loop
+add-cell c = let p = c .before .before .before .loop .inv .4 .sizes in let q = end-cells (c .before .before .before .loop .inv .4) in omega arith
+
+add-cell-2 : tie.Need-add-cell-2 Inv-loop μ-loop
+add-cell-2 c = let p = c .before .before .before .loop .inv .4 .sizes in let q = end-cells (c .before .before .before .loop .inv .4) in omega arith
+
+add-cell-3 : tie.Need-add-cell-3 Inv-loop μ-loop
+add-cell-3 c = let p = c .before .before .before .loop .inv .4 .sizes in let q = end-cells (c .before .before .before .loop .inv .4) in omega arith
+
+mul-cell : tie.Need-mul-cell Inv-loop μ-loop
+mul-cell c = let p = c .before .before .before .loop .inv .4 .sizes in let q = end-cells (c .before .before .before .loop .inv .4) in omega arith
+
+add-cell-4 : tie.Need-add-cell-4 Inv-loop μ-loop
+add-cell-4 c = let p = c .before .before .before .loop .inv .4 .sizes in let q = end-cells (c .before .before .before .loop .inv .4) in omega arith
+
+add-cell-5 : tie.Need-add-cell-5 Inv-loop μ-loop
+add-cell-5 c = let p = c .before .before .before .loop .inv .4 .sizes in let q = end-cells (c .before .before .before .loop .inv .4) in omega arith
+
+cell-requires : tie.Need-cell-requires Inv-loop μ-loop
+cell-requires c κs = let q = end-cells (c .before .before .before .loop .inv .4) in let r = end-room (c .before .before .before .loop .inv .4) in (omega arith, omega arith)
+
+same-length : tie.Need-same-length Inv-loop μ-loop
+same-length c = search needs
+
+returns : tie.Need-returns Inv-loop μ-loop
+returns c = flagged-filled (c .before .before .before .before .loop .val) (c .before .before .before .before .loop .ov) (c .before .before .before .before .loop .inv .5) (omega arith) (c .cell .ensures) (omega arith)
+
+pub rest-spec : {M : Type 1} → statement M
+rest-spec =
+    tie.close
+    (tie.spec
+    Inv-loop
+    μ-loop
+    loop-holds
+    slice-aggregate-turn
+    turn-requires
+    add-x
+    loop-less
+    loop-again
+    slice-aggregate-cell
+    add-cell
+    add-cell-2
+    add-cell-3
+    mul-cell
+    add-cell-4
+    add-cell-5
+    cell-requires
+    same-length
+    returns)

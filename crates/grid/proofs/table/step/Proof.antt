@@ -1,0 +1,98 @@
+use native.Mathlib.Omega.{arith}
+use Rattle.grid.proofs.Turns.{wide-enough, step-empty, run4, run8, pow4, pow8, most4, most8}
+use borrow.Author.Needs.{needs}
+use Rattle.grid.proofs.table.step.Statement.{statement}
+use Rattle.grid.proofs.table.step.Tie as tie
+
+from-at-requires : tie.Need-from-at-requires
+from-at-requires c κs = search needs
+
+to-at-requires : tie.Need-to-at-requires
+to-at-requires c κs = search needs
+
+returns : tie.Need-returns
+returns c = step-empty (c .before .before .before .before .pre) (c .before .before .from-at .ensures) (c .before .to-at .ensures) (c .if1 .taken)
+
+add-d : tie.Need-add-d
+add-d c = search needs
+
+add-d-2 : tie.Need-add-d-2
+add-d-2 c = search needs
+
+add-d-3 : tie.Need-add-d-3
+add-d-3 c = search needs
+
+mul-d : tie.Need-mul-d
+mul-d c = let h = wide-enough (c .before .before .before .before .pre) in omega arith
+
+add-d-4 : tie.Need-add-d-4
+add-d-4 c = search needs
+
+add-d-5 : tie.Need-add-d-5
+add-d-5 c = let h = wide-enough (c .before .before .before .before .pre) in omega arith
+
+sub-n : tie.Need-sub-n
+sub-n c = search needs
+
+column4-requires : tie.Need-column4-requires
+column4-requires c κs = run4 (c .before .before .before .before .before .before .pre) (c .before .before .before .before .from-at .ensures) (c .before .before .before .to-at .ensures) (c .before .before .if1 .left) (c .before .if2 .taken)
+
+same-length : tie.Need-same-length
+same-length c = search needs
+
+returns-2 : tie.Need-returns-2
+returns-2 c = pow4 (c .before .before .before .before .before .before .before .before .before .before .pre) (c .before .before .before .before .before .before .before .before .from-at .ensures) (c .before .before .before .before .before .before .before .to-at .ensures) (c .before .before .before .before .before .before .if1 .left) (c .before .before .before .before .before .if2 .taken) (c .before .before .before .column4 .ensures) (c .if3 .taken)
+
+most-requires : tie.Need-most-requires
+most-requires c κs = omega (arith, run4 (c .before .before .before .before .before .before .before .before .before .before .before .pre) (c .before .before .before .before .before .before .before .before .before .from-at .ensures) (c .before .before .before .before .before .before .before .before .to-at .ensures) (c .before .before .before .before .before .before .before .if1 .left) (c .before .before .before .before .before .before .if2 .taken) .inside)
+
+same-length-2 : tie.Need-same-length-2
+same-length-2 c = search needs
+
+returns-3 : tie.Need-returns-3
+returns-3 c = most4 (c .before .before .before .before .before .before .before .before .before .before .before .before .pre) (c .before .before .before .before .before .before .before .before .before .before .from-at .ensures) (c .before .before .before .before .before .before .before .before .before .to-at .ensures) (c .before .before .before .before .before .before .before .before .if1 .left) (c .before .before .before .before .before .before .before .if2 .taken) (c .before .before .before .before .before .column4 .ensures) _ (c .most .ensures)
+
+column8-requires : tie.Need-column8-requires
+column8-requires c κs = run8 (c .before .before .before .before .before .before .pre) (c .before .before .before .before .from-at .ensures) (c .before .before .before .to-at .ensures) (c .before .before .if1 .left)
+
+same-length-3 : tie.Need-same-length-3
+same-length-3 c = search needs
+
+returns-4 : tie.Need-returns-4
+returns-4 c = pow8 (c .before .before .before .before .before .before .before .before .before .before .pre) (c .before .before .before .before .before .before .before .before .from-at .ensures) (c .before .before .before .before .before .before .before .to-at .ensures) (c .before .before .before .before .before .before .if1 .left) (c .before .before .before .column8 .ensures) (c .if4 .taken)
+
+most-requires-2 : tie.Need-most-requires-2
+most-requires-2 c κs = omega (arith, run8 (c .before .before .before .before .before .before .before .before .before .before .before .pre) (c .before .before .before .before .before .before .before .before .before .from-at .ensures) (c .before .before .before .before .before .before .before .before .to-at .ensures) (c .before .before .before .before .before .before .before .if1 .left) .inside)
+
+same-length-4 : tie.Need-same-length-4
+same-length-4 c = search needs
+
+returns-5 : tie.Need-returns-5
+returns-5 c = most8 (c .before .before .before .before .before .before .before .before .before .before .before .before .pre) (c .before .before .before .before .before .before .before .before .before .before .from-at .ensures) (c .before .before .before .before .before .before .before .before .before .to-at .ensures) (c .before .before .before .before .before .before .before .before .if1 .left) (c .before .before .before .before .before .column8 .ensures) _ (c .most2 .ensures)
+
+pub step-spec : {M : Type 1} → statement M
+step-spec =
+    tie.close
+    (tie.spec
+    from-at-requires
+    to-at-requires
+    returns
+    add-d
+    add-d-2
+    add-d-3
+    mul-d
+    add-d-4
+    add-d-5
+    sub-n
+    column4-requires
+    same-length
+    returns-2
+    most-requires
+    same-length-2
+    returns-3
+    column8-requires
+    same-length-3
+    returns-4
+    most-requires-2
+    same-length-4
+    returns-5)

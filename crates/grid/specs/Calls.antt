@@ -1,0 +1,34 @@
+-- What the calls of this crate answer: document 01's answer for families 1, 3, 6 and 7, and refusal 11 for 2, 4 and 5, which another crate
+-- answers.
+--
+--   forGrid b a      the answer a to block b, or refusal 11
+--   Countable s      the shape s is some job's
+--   CountsAs s r     r says the count of every job whose shape is s, or refusal 4
+use mathlib.Core.Path.{_≡_}
+use mathlib.Core.List.{List}
+use Prim.Native.Nat.{ℕ}
+use lib.Dec.{leb}
+use Rattle.howmany.specs.Choose.{pick}
+use Rattle.rules.specs.Jobs as rules
+use Rattle.rules.specs.Counts.{countOf}
+use Rattle.rules.specs.Blocks.{familyOf, square}
+use Rattle.rules.specs.Refusals.{Answer, check}
+use Rattle.rules.specs.Refusals.Refusal.{kind, over}
+use Rattle.rules.specs.Refusals.Answer.{accepted, refused}
+use Rattle.rules.specs.Answers.{most}
+use Rattle.rules.proofs.Demand3.{InRange}
+use Rattle.job.specs.declared.Counted.{Counted}
+use Rattle.job.specs.Replies.{reply, countSays}
+use Rattle.grid.specs.Shapes.{Shaped}
+use Rattle.grid.specs.declared.shape.Shape.{Shape}
+
+abbrev pub forGrid : {A : Type 0} → List ℕ → Answer A → Answer A
+forGrid b a = pick (square (familyOf b)) (refused kind) a
+
+pub record Countable (s : Shape) : Type 0 where
+  pub job : rules.Job
+  pub range : InRange job
+  pub shaped : Shaped job s
+
+abbrev pub CountsAs : Shape → Counted → Type 0
+CountsAs s r = (J : rules.Job) → InRange J → Shaped J s → countSays r ≡ reply (check (leb (countOf J) most) over (accepted (countOf J)))

@@ -1,0 +1,132 @@
+-- A job in the grid's form.
+--
+--   Grids J             the job is of family 1, 3, 6 or 7
+--   Sound j             the held job j stands for such a job
+--   isCorner J          its edges are written N E D
+--   Sits J q            the spot q stands for the job's end
+--   Fits J s            the shape s has the steps, the end and the letters of the job
+--   Shaped J s          s says all of the job: its steps and end, that its count needs more than 64 bits, or that nothing leads to its end
+--   ShapedFor j s       the same, of the job that j stands for
+--   cornerState n m     1 where n and m are above 33
+--   cornerShape n m d   the shape of families 1 (d false) and 3 (d true)
+--   Ranged j            the ranges of families 6 and 7; Laid j f s: their shape; Laying: their steps so far
+use mathlib.Core.Path.{_≡_}
+use mathlib.Core.Bool.{Bool, true, false, _&&_}
+use mathlib.Core.List.{List, [], _∷_}
+use Prim.Native.Nat.{ℕ, _+_, _*_, _-_, _^_, _≤_, _<_}
+use lib.Dec.{ltb}
+use lib.ListN.{length, getD}
+use Rattle.howmany.specs.Choose.{pick, bit}
+use Rattle.backward.specs.Grid.{Spot}
+use Rattle.rules.specs.Jobs as rules
+use Rattle.rules.specs.Jobs.{endOf}
+use Rattle.rules.specs.Jobs.Job.{north-east, dyck, delannoy, schroder, motzkin, directed}
+use Rattle.rules.specs.Valid.{Valid}
+use Rattle.rules.specs.Counts.{countOf}
+use Rattle.rules.specs.Shear.{gridOf, Corner, Slope}
+use Rattle.job.specs.declared.Job.{Job}
+use Rattle.job.specs.Stands.{Stands}
+use Rattle.grid.specs.Form.{Form, spot}
+use Rattle.grid.specs.declared.shape.Shape.{Shape}
+
+abbrev pub Grids : rules.Job → Type 0
+Grids (north-east n m) = Unit {0}
+Grids (dyck n) = ⊥
+Grids (delannoy n m) = Unit {0}
+Grids (schroder n) = ⊥
+Grids (motzkin n) = ⊥
+Grids (directed fenced n m pairs) = Unit {0}
+
+pub record Sound (j : Job) : Type 0 where
+  pub job : rules.Job
+  pub stands : Stands j job
+  pub grids : Grids job
+
+abbrev pub isCorner : rules.Job → Bool
+isCorner (north-east n m) = true
+isCorner (dyck n) = true
+isCorner (delannoy n m) = true
+isCorner (schroder n) = true
+isCorner (motzkin n) = true
+isCorner (directed fenced n m pairs) = false
+
+abbrev pub Sits : rules.Job → Spot → Type 0
+Sits (north-east n m) q = Corner (endOf (north-east n m)) q
+Sits (dyck n) q = ⊥
+Sits (delannoy n m) q = Corner (endOf (delannoy n m)) q
+Sits (schroder n) q = ⊥
+Sits (motzkin n) q = ⊥
+Sits (directed fenced n m pairs) q = Slope (endOf (directed fenced n m pairs)) q
+
+pub record Fits (J : rules.Job) (s : Shape) : Type 0 where
+  pub letters : s .corner ≡ isCorner J
+  pub many : gridOf J .k ≡ s .k
+  pub fence : gridOf J .f ≡ s .f
+  pub right : (i : ℕ) → i < s .k → getD (s .sa) i 0 ≡ gridOf J .a i
+  pub up : (i : ℕ) → i < s .k → getD (s .sc) i 0 ≡ gridOf J .c i
+  pub end : Sits J (spot (s .ex) (s .ey))
+
+pub data Shaped (J : rules.Job) (s : Shape) : Type 0 where
+  worked : s .state ≡ 0 → Form (s .k) (s .f) (s .sa) (s .sc) (s .top) (s .ex) (s .ey) → Fits J s → Shaped J s
+  over : s .state ≡ 1 → 2 ^ 64 ≤ countOf J → Shaped J s
+  nothing : s .state ≡ 2 → countOf J ≡ 0 → ((e : List ℕ) → Valid J e → ⊥) → Shaped J s
+
+-- whatever job the held job j stands for
+abbrev pub ShapedFor : Job → Shape → Type 0
+ShapedFor j s = (J : rules.Job) → Stands j J → Shaped J s
+
+abbrev pub cornerState : ℕ → ℕ → ℕ
+cornerState n m = bit (ltb 33 n && ltb 33 m)
+
+abbrev pub cornerShape : ℕ → ℕ → Bool → Shape
+cornerShape n m true = record {
+  state = cornerState n m;
+  corner = true;
+  k = 3;
+  f = 0;
+  top = 1;
+  ex = n + m;
+  ey = m;
+  sa = 1 ∷ 1 ∷ 2 ∷ 100 ∷ 100 ∷ 100 ∷ 100 ∷ 100 ∷ [];
+  sc = 1 ∷ 0 ∷ 1 ∷ 0 ∷ 0 ∷ 0 ∷ 0 ∷ 0 ∷ [];
+}
+cornerShape n m false = record {
+  state = cornerState n m;
+  corner = true;
+  k = 2;
+  f = 0;
+  top = 1;
+  ex = n + m;
+  ey = m;
+  sa = 1 ∷ 1 ∷ 100 ∷ 100 ∷ 100 ∷ 100 ∷ 100 ∷ 100 ∷ [];
+  sc = 1 ∷ 0 ∷ 0 ∷ 0 ∷ 0 ∷ 0 ∷ 0 ∷ 0 ∷ [];
+}
+
+pub record Ranged (j : Job) : Type 0 where
+  pub n-most : j .n ≤ 32
+  pub m-most : j .m ≤ 224
+  pub some : 1 ≤ j .k
+  pub few : j .k ≤ 8
+  pub a-least : (i : ℕ) → i < j .k → 1 ≤ getD (j .a) i 0
+  pub a-most : (i : ℕ) → i < j .k → getD (j .a) i 0 ≤ 3
+  pub b-least : (i : ℕ) → i < j .k → 125 ≤ getD (j .b) i 0
+  pub b-most : (i : ℕ) → i < j .k → getD (j .b) i 0 ≤ 131
+
+-- the first i steps are laid, and the others aren't there
+pub record Laying (a b sa sc : List ℕ) (i : ℕ) : Type 0 where
+  pub eight : length sa ≡ 8
+  pub eight-too : length sc ≡ 8
+  pub right : (j : ℕ) → j < i → getD sa j 0 ≡ getD a j 0
+  pub up : (j : ℕ) → j < i → getD sc j 0 ≡ getD b j 0 + 3 * getD a j 0 - 128
+  pub away : (j : ℕ) → i ≤ j → j < 8 → getD sa j 0 ≡ 100
+  pub flat : (j : ℕ) → i ≤ j → j < 8 → getD sc j 0 ≡ 0
+
+pub record Laid (j : Job) (f : ℕ) (s : Shape) : Type 0 where
+  pub state-is : s .state ≡ pick (ltb (j .m + 3 * j .n) 128) 2 0
+  pub corner-is : s .corner ≡ false
+  pub k-is : s .k ≡ j .k
+  pub f-is : s .f ≡ f
+  pub top-is : s .top ≡ 12
+  pub ex-is : s .ex ≡ j .n
+  pub ey-is : s .ey ≡ j .m + 3 * j .n - 128
+  pub steps : Laying (j .a) (j .b) (s .sa) (s .sc) (j .k)

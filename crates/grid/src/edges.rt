@@ -1,0 +1,190 @@
+// Edges of the grid from their end backwards: validity, the number of an edge, and the edge of a number.
+ghost use mathlib.Core.Path.{_≡_};
+ghost use Prim.Native.Nat.{_≤_, _<_};
+ghost use lib.ListN.{drop};
+ghost use Rattle.howmany.specs.Sum.{sum};
+ghost use Rattle.grid.specs.Form.{Form, via};
+ghost use Rattle.grid.specs.Edges.{isEdge, numberOf, edgeOf, Reads, Ranking, Sought, Spelling};
+use crate::column::source;
+use crate::letters::glyph_of;
+use crate::letters::place_of;
+
+// Whether e is an edge to (ex, ey).
+pub(crate) fn valid(
+    e: &[u8],
+    corner: bool,
+    sa: &[usize; 8],
+    sc: &[usize; 8],
+    k: usize,
+    f: usize,
+    top: usize,
+    ex: usize,
+    ey: usize,
+) -> bool
+    requires { ⌜ Form k f (now sa) (now sc) top ex ey ⌝ }
+    ensures { λ r. ⌜ r ≡ isEdge corner k f (now (sa .entry)) (now (sc .entry)) ex ey (now (e .entry)) ⌝ }
+{
+    let mut x = ex;
+    let mut y = ey;
+    let mut i = e.len();
+    while 0 < i {
+        i -= 1;
+        let l = place_of(corner, e[i]);
+        if y < f * x {
+            return false;
+        }
+        if k <= l {
+            return false;
+        }
+        if x < sa[l] {
+            return false;
+        }
+        if y < sc[l] {
+            return false;
+        }
+        x -= sa[l];
+        y -= sc[l];
+    }
+    x + y == 0
+}
+
+// What the first l steps bring to cell p, column x, height y.
+fn part_sum(
+    val: &[u64],
+    sa: &[usize; 8],
+    sc: &[usize; 8],
+    off: &[usize; 8],
+    k: usize,
+    f: usize,
+    x: usize,
+    y: usize,
+    p: usize,
+    l: usize,
+) -> u64
+    requires { ⌜ l ≤ k ⌝ }
+    requires { ⌜ Reads k f (now sa) (now sc) (now off) (now val) x y p ⌝ }
+    ensures { λ r. ⌜ r ≡ sum (via k f (now (sa .entry)) (now (sc .entry)) x y) l ⌝ }
+{
+    let mut acc: u64 = 0;
+    let mut i = 0;
+    while i < l {
+        let s = source(sa, off, i, x, p);
+        acc += val[s];
+        i += 1;
+    }
+    acc
+}
+
+// The number of a valid edge (001, algorithm 7).
+pub(crate) fn rank(
+    val: &[u64],
+    sa: &[usize; 8],
+    sc: &[usize; 8],
+    off: &[usize; 8],
+    few: bool,
+    k: usize,
+    f: usize,
+    hi: usize,
+    m: usize,
+    ex: usize,
+    ey: usize,
+    corner: bool,
+    e: &[u8],
+) -> u64
+    requires { ⌜ Ranking corner few k f (now sa) (now sc) (now off) hi m ex ey (now val) (now e) ⌝ }
+    ensures { λ r. ⌜ r ≡ numberOf corner k f (now (sa .entry)) (now (sc .entry)) ex ey (now (e .entry)) ⌝ }
+{
+    let mut acc: u64 = 0;
+    let mut x = ex;
+    let mut y = ey;
+    let mut p = (ex + 1) * (m + ey + 1) + m + ey;
+    let mut i = e.len();
+    while 0 < i {
+        i -= 1;
+        let l = place_of(corner, e[i]);
+        let v = part_sum(val, sa, sc, off, k, f, x, y, p, l);
+        acc += v;
+        x -= sa[l];
+        y -= sc[l];
+        p -= off[l];
+    }
+    acc
+}
+
+// A last step, and the number of what stands before it.
+pub(crate) struct Pick {
+    pub(crate) letter: usize,
+    pub(crate) rest: u64,
+}
+
+// The last step of number r among the walks to column x, height y.
+fn seek(
+    val: &[u64],
+    sa: &[usize; 8],
+    sc: &[usize; 8],
+    off: &[usize; 8],
+    k: usize,
+    f: usize,
+    x: usize,
+    y: usize,
+    p: usize,
+    r: u64,
+) -> Pick
+    requires { ⌜ Reads k f (now sa) (now sc) (now off) (now val) x y p ⌝ }
+    requires { ⌜ r < sum (via k f (now sa) (now sc) x y) k ⌝ }
+    ensures { λ q. ⌜ Sought (via k f (now (sa .entry)) (now (sc .entry)) x y) k r (q .letter) (q .rest) ⌝ }
+{
+    let mut left = r;
+    let mut i = 0;
+    while i < k {
+        let s = source(sa, off, i, x, p);
+        let v = val[s];
+        if left < v {
+            return Pick {
+                letter: i,
+                rest: left,
+            };
+        }
+        left -= v;
+        i += 1;
+    }
+    Pick { letter: 0, rest: 0 }
+}
+
+// The edge of number r, at the end of buf (001, algorithm 8); the answer is where it starts.
+pub(crate) fn spell(
+    val: &[u64],
+    sa: &[usize; 8],
+    sc: &[usize; 8],
+    off: &[usize; 8],
+    few: bool,
+    k: usize,
+    f: usize,
+    hi: usize,
+    m: usize,
+    ex: usize,
+    ey: usize,
+    corner: bool,
+    r: u64,
+    buf: &mut [u8],
+) -> usize
+    requires { ⌜ Spelling few k f (now sa) (now sc) (now off) hi m ex ey (now val) r (now buf) ⌝ }
+    ensures { λ s. ⌜ (s ≤ 128) × (drop s (now (buf .exit)) ≡ edgeOf corner k f (now (sa .entry)) (now (sc .entry)) ex ey r) ⌝ }
+{
+    let mut x = ex;
+    let mut y = ey;
+    let mut p = (ex + 1) * (m + ey + 1) + m + ey;
+    let mut left = r;
+    let mut s: usize = 128;
+    while 0 < x {
+        let q = seek(val, sa, sc, off, k, f, x, y, p, left);
+        let l = q.letter;
+        left = q.rest;
+        s -= 1;
+        buf[s] = glyph_of(corner, l);
+        x -= sa[l];
+        y -= sc[l];
+        p -= off[l];
+    }
+    s
+}

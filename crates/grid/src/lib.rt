@@ -1,0 +1,61 @@
+// Families 1, 3, 6 and 7: count, number and build over the one grid that the four become by a shear.
+ghost use mathlib.Core.Path.{_≡_};
+ghost use Rattle.rules.specs.Answers.{countAnswer};
+ghost use Rattle.job.specs.Replies.{reply, countSays};
+ghost use Rattle.grid.specs.Calls.{forGrid, Countable, CountsAs};
+
+mod column;
+mod cone;
+mod counting;
+mod edges;
+mod flags;
+mod letters;
+mod plan;
+mod shape;
+mod table;
+
+use job::Counted;
+use job::Job;
+use shape::Shape;
+
+// A count, or that it needs more than 64 bits.
+pub enum Answer {
+    Count(u64),
+    Over,
+}
+
+// The count of a job of family 1, 3, 6 or 7 (document 01, "Counts").
+pub fn count(block: &[u8]) -> Counted
+    ensures { λ r. ⌜ countSays r ≡ reply (forGrid (now (block .entry)) (countAnswer (now (block .entry)))) ⌝ }
+{
+    if job::is_square(block) {
+        return Counted::Refused(11);
+    }
+    let made = Job::of(block);
+    let refusal = made.refusal;
+    if refusal != 0 {
+        return Counted::Refused(refusal);
+    }
+    let job = made.job;
+    let s = shape::shape_of(job);
+    count_shape(s)
+}
+
+fn count_shape(s: Shape) -> Counted
+    requires { ⌜ Countable s ⌝ }
+    ensures { λ r. ⌜ CountsAs s r ⌝ }
+{
+    let state = s.state;
+    if state == 1 {
+        return Counted::Refused(4);
+    }
+    if state == 2 {
+        return Counted::Count(0);
+    }
+    let sa = s.sa;
+    let sc = s.sc;
+    match counting::count(&sa, &sc, s.k, s.f, s.top, s.ex, s.ey) {
+        Answer::Count(c) => Counted::Count(c),
+        Answer::Over => Counted::Refused(4),
+    }
+}
