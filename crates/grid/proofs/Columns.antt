@@ -137,7 +137,7 @@ module _ {k f : ℕ} {sa sc off : List ℕ} {hi m ex ey : ℕ} (pl : Plan k sa s
         same : (u y : ℕ) → u < x + 1 → (u < x → ⊥) → Ends hi ex ey u y → at (place m ey u y) ≡ T (W k f sa sc u y)
         same u y l h en = let e : u ≡ x = omega arith in rw e (blank (place m ey x y) (omega arith) ∙ ap T (sym (none y (rw e at en))))
 
-module _ (k f : ℕ) (sa sc off : List ℕ) (hi m ex ey : ℕ) (pl : Plan k sa sc hi m ex) (of : Offsets sa sc off (strideOf m ey)) (val : List ℕ) (x : ℕ) (tb : Table k f sa sc hi m ex ey val x) (px : 1 ≤ x) (lx : x ≤ ex) where
+module _ {k f : ℕ} {sa sc off : List ℕ} {hi m ex ey : ℕ} (pl : Plan k sa sc hi m ex) (of : Offsets sa sc off (strideOf m ey)) (val : List ℕ) {x : ℕ} (tb : Table k f sa sc hi m ex ey val x) (px : 1 ≤ x) (lx : x ≤ ex) where
   module _ (n : ℕ) (n-pos : 1 ≤ n) (n-le : n ≤ 8) (gone : (i : ℕ) → n ≤ i → i < 8 → ex < getD sa i 0) (from to : ℕ) (fr : From f hi ex ey x from) (up : To hi ey x to) where
     ends-at : (t : ℕ) → from + t < to → Ends hi ex ey x (from + t)
     ends-at t l = (omega (arith, up .under), omega (arith, fr .ends))

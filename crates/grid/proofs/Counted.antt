@@ -14,16 +14,19 @@ use lib.Dec.{T, leb, ltb}
 use lib.ListN.{getD}
 use borrow.Author.Tests.{le-leb, lt-leb, lt-ltb, le-ltb}
 use Rattle.howmany.specs.Choose.{pick}
+use Rattle.howmany.proofs.Choices.{is-false}
 use Rattle.rules.specs.Jobs as rules
 use Rattle.rules.specs.Counts.{countOf}
-use Rattle.rules.specs.Valid.{Valid}
+use Rattle.rules.specs.Points.{origin}
+use Rattle.rules.specs.Valid.{walks, Valid}
+use Rattle.rules.specs.Numbers.{numberOf}
 use Rattle.rules.specs.Blocks.{familyOf, square, jobAnswer}
 use Rattle.rules.specs.Refusals.{Refusal, Answer, check, refusalNumber}
-use Rattle.rules.specs.Refusals.Refusal.{kind, over}
+use Rattle.rules.specs.Refusals.Refusal.{kind, over, not-an-edge}
 use Rattle.rules.specs.Refusals.Answer.{accepted, refused}
-use Rattle.rules.specs.Answers.{most, countAnswer}
+use Rattle.rules.specs.Answers.{most, countAnswer, numberAnswer}
 use Rattle.rules.proofs.Demand3.{InRange}
-use Rattle.rules.proofs.Answering.{known-told, count-told, count-fitted}
+use Rattle.rules.proofs.Answering.{known-told, count-told, count-fitted, number-told, number-fitted}
 use Rattle.job.specs.Replies.{Reply, reply}
 use Rattle.job.specs.Replies.Reply.{value, refusal}
 use Rattle.job.specs.declared.Job.{Job}
@@ -31,12 +34,16 @@ use Rattle.job.specs.Stands.{Stands}
 use Rattle.job.proofs.Standing.{Kept, Told}
 use Rattle.grid.specs.Form.{Form, W}
 use Rattle.grid.specs.Cells.{capBy, capOf}
-use Rattle.grid.specs.Shapes.{Sound, Fits, Shaped}
+use Rattle.grid.specs.Shapes.{Grids, Sound, Fits, Shaped}
+use Rattle.grid.specs.Edges as edges
+use Rattle.grid.specs.Numbering.{tableNumber}
 use Rattle.grid.specs.Shapes.Shaped.{worked, over as is-over, nothing}
 use Rattle.grid.specs.Calls.{forGrid}
 use Rattle.grid.specs.declared.shape.Shape.{Shape}
 use Rattle.grid.specs.declared.Answer as answers
 use Rattle.grid.specs.declared.Answer.the-variants.{Count, Over}
+use Rattle.grid.proofs.Laws.{cap-count, cap-over}
+use Rattle.grid.proofs.Worded.{shape-edge, shape-number}
 use Rattle.grid.proofs.Grounds.{grids-of, stands-range, shape-count}
 
 pub record Working (J : rules.Job) (s : Shape) : Type 0 where
@@ -66,12 +73,6 @@ module _ (J : rules.Job) (s : Shape) where
 
 -- ---- the reply to a count
 
-count-one : (c d : ℕ) → Count c ≡ Count d → c ≡ d
-count-one c d e = cc
-
-not-over : (c : ℕ) → Count c ≡ Over → ⊥
-not-over c e = let z : _≡_ {A = ℕ} 0 1 = cc in omega arith
-
 pub counts-over : (c : ℕ) → 2 ^ 64 ≤ c → refusal 4 ≡ reply (check (leb c most) over (accepted c))
 unfolding refusalNumber
 counts-over c l = rw (lt-leb c most (omega arith)) refl
@@ -79,32 +80,16 @@ counts-over c l = rw (lt-leb c most (omega arith)) refl
 pub counts-value : (c d : ℕ) → c ≡ d → c < 2 ^ 64 → value d ≡ reply (check (leb c most) over (accepted c))
 counts-value c d e l = rw (le-leb c most (omega arith)) (ap value (sym e))
 
-pub cap-count : (w c : ℕ) → Count c ≡ capOf w → (w ≡ c) × (w < 2 ^ 64)
-unfolding capOf
-cap-count w c e = go (decLt w (2 ^ 64))
-  where
-    go : Dec (w < 2 ^ 64) → (w ≡ c) × (w < 2 ^ 64)
-    go (yes l) = let q : Count c ≡ Count w = e ∙ rw (lt-ltb w (2 ^ 64) l) refl in (sym (count-one c w q), l)
-    go (no l) = absurd (not-over c (e ∙ rw (le-ltb w (2 ^ 64) (omega arith)) refl))
-
-pub cap-over : (w : ℕ) → Over ≡ capOf w → 2 ^ 64 ≤ w
-unfolding capOf
-cap-over w e = go (decLt w (2 ^ 64))
-  where
-    go : Dec (w < 2 ^ 64) → 2 ^ 64 ≤ w
-    go (yes l) = absurd (not-over w (sym (e ∙ rw (lt-ltb w (2 ^ 64) l) refl)))
-    go (no l) = omega arith
-
 pub counts-cap : (J : rules.Job) (s : Shape) → InRange J → Working J s → (c : ℕ) → Count c ≡ capOf (W (s .k) (s .f) (s .sa) (s .sc) (s .ex) (s .ey))
     → value c ≡ reply (check (leb (countOf J) most) over (accepted (countOf J)))
 counts-cap J s r w c e =
-    let q = cap-count (W (s .k) (s .f) (s .sa) (s .sc) (s .ex) (s .ey)) c e in
+    let q = cap-count (W (s .k) (s .f) (s .sa) (s .sc) (s .ex) (s .ey)) c (sym e) in
     let z = shape-count J s r (w .fits) in
     counts-value (countOf J) c (sym z ∙ q .0) (omega (arith, q .1))
 
 pub counts-cap-over : (J : rules.Job) (s : Shape) → InRange J → Working J s → Over ≡ capOf (W (s .k) (s .f) (s .sa) (s .sc) (s .ex) (s .ey))
     → refusal 4 ≡ reply (check (leb (countOf J) most) over (accepted (countOf J)))
-counts-cap-over J s r w e = counts-over (countOf J) (omega (arith, cap-over (W (s .k) (s .f) (s .sa) (s .sc) (s .ex) (s .ey)) e, shape-count J s r (w .fits)))
+counts-cap-over J s r w e = counts-over (countOf J) (omega (arith, cap-over (W (s .k) (s .f) (s .sa) (s .sc) (s .ex) (s .ey)) (sym e), shape-count J s r (w .fits)))
 
 -- ---- the ways through a block
 
@@ -124,3 +109,35 @@ sound-of b j k e = record { job = k .job; stands = k .stands; grids = grids-of j
 pub count-reply : (b : List ℕ) (J : rules.Job) (x : Reply) → square (familyOf b) ≡ false → jobAnswer b ≡ accepted J
     → x ≡ reply (check (leb (countOf J) most) over (accepted (countOf J))) → x ≡ reply (forGrid b (countAnswer b))
 count-reply b J x e a q = q ∙ rw e (ap reply (sym (count-fitted b J a)))
+
+-- ---- numbers
+
+pub number-over : (c : ℕ) (a : Answer ℕ) → 2 ^ 64 ≤ c → refusal 4 ≡ reply (check (leb c most) over a)
+unfolding refusalNumber
+number-over c a l = rw (lt-leb c most (omega arith)) refl
+
+pub number-none : (J : rules.Job) (e : List ℕ) → countOf J ≡ 0 → (Valid J e → ⊥) → refusal 5 ≡ reply (check (leb (countOf J) most) over (check (walks J origin e) not-an-edge (accepted (numberOf J e))))
+unfolding refusalNumber Valid
+number-none J e z n = rw (le-leb (countOf J) most (omega arith), is-false (walks J origin e) n) refl
+
+-- the table's answer is the job's
+pub table-is : (J : rules.Job) (s : Shape) (e : List ℕ) → InRange J → Grids J → Working J s
+    → tableNumber (s .corner) (s .k) (s .f) (s .sa) (s .sc) (s .ex) (s .ey) e ≡ check (leb (countOf J) most) over (check (walks J origin e) not-an-edge (accepted (numberOf J e)))
+unfolding tableNumber
+table-is J s e r g w =
+    rw (shape-count J s r (w .fits), shape-edge J s g r (w .fits) e) (go (walks J origin e) refl)
+  where
+    n : ℕ
+    n = edges.numberOf (s .corner) (s .k) (s .f) (s .sa) (s .sc) (s .ex) (s .ey) e
+
+    go : (t : Bool) → walks J origin e ≡ t
+        → check (leb (countOf J) most) over (check t not-an-edge (accepted n)) ≡ check (leb (countOf J) most) over (check t not-an-edge (accepted (numberOf J e)))
+    go true q = ap (λ (x : ℕ). check (leb (countOf J) most) over (accepted x)) (shape-number J s g r (w .fits) e (subst T (sym q) tt))
+    go false q = refl
+
+pub number-told-reply : (b : List ℕ) (e : List ℕ) (r : ℕ) → square (familyOf b) ≡ false → Told b r → refusal r ≡ reply (forGrid b (numberAnswer b e))
+number-told-reply b s r e t = told-reply b r (numberAnswer b s) e t (number-told b s (t .refusal) (known-told b (t .refusal) (t .answer)))
+
+pub number-reply : (b : List ℕ) (s : List ℕ) (J : rules.Job) (x : Reply) → square (familyOf b) ≡ false → jobAnswer b ≡ accepted J
+    → x ≡ reply (check (leb (countOf J) most) over (check (walks J origin s) not-an-edge (accepted (numberOf J s)))) → x ≡ reply (forGrid b (numberAnswer b s))
+number-reply b s J x e a q = q ∙ rw e (ap reply (sym (number-fitted b J a s)))

@@ -12,3 +12,5 @@ pub mod Building
 pub mod Shaping
 pub mod Grounds
 pub mod Counted
+pub mod Tabled
+pub mod Worded

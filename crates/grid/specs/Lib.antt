@@ -6,3 +6,4 @@ pub mod Letters
 pub mod Edges
 pub mod Shapes
 pub mod Calls
+pub mod Numbering

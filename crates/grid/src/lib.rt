@@ -1,8 +1,8 @@
 // Families 1, 3, 6 and 7: count, number and build over the one grid that the four become by a shear.
 ghost use mathlib.Core.Path.{_≡_};
-ghost use Rattle.rules.specs.Answers.{countAnswer};
-ghost use Rattle.job.specs.Replies.{reply, countSays};
-ghost use Rattle.grid.specs.Calls.{forGrid, Countable, CountsAs};
+ghost use Rattle.rules.specs.Answers.{countAnswer, numberAnswer};
+ghost use Rattle.job.specs.Replies.{reply, countSays, numberSays};
+ghost use Rattle.grid.specs.Calls.{forGrid, Countable, CountsAs, NumbersAs};
 
 mod column;
 mod cone;
@@ -10,12 +10,14 @@ mod counting;
 mod edges;
 mod flags;
 mod letters;
+mod numbering;
 mod plan;
 mod shape;
 mod table;
 
 use job::Counted;
 use job::Job;
+use job::Numbered;
 use shape::Shape;
 
 // A count, or that it needs more than 64 bits.
@@ -58,4 +60,37 @@ fn count_shape(s: Shape) -> Counted
         Answer::Count(c) => Counted::Count(c),
         Answer::Over => Counted::Refused(4),
     }
+}
+
+// The number of an edge of a job of family 1, 3, 6 or 7 (000, algorithms 1 and 5; 001, algorithm 7).
+pub fn number(block: &[u8], edge: &[u8]) -> Numbered
+    ensures { λ r. ⌜ numberSays r ≡ reply (forGrid (now (block .entry)) (numberAnswer (now (block .entry)) (now (edge .entry)))) ⌝ }
+{
+    if job::is_square(block) {
+        return Numbered::Refused(11);
+    }
+    let made = Job::of(block);
+    let refusal = made.refusal;
+    if refusal != 0 {
+        return Numbered::Refused(refusal);
+    }
+    let job = made.job;
+    let s = shape::shape_of(job);
+    number_shape(s, edge)
+}
+
+fn number_shape(s: Shape, edge: &[u8]) -> Numbered
+    requires { ⌜ Countable s ⌝ }
+    ensures { λ r. ⌜ NumbersAs s (now (edge .entry)) r ⌝ }
+{
+    let state = s.state;
+    if state == 1 {
+        return Numbered::Refused(4);
+    }
+    if state == 2 {
+        return Numbered::Refused(5);
+    }
+    let sa = s.sa;
+    let sc = s.sc;
+    numbering::number(&sa, &sc, s.k, s.f, s.top, s.ex, s.ey, s.corner, edge)
 }

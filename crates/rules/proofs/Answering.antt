@@ -3,8 +3,8 @@
 --   known-told, known-over, known-fits         the job whose count fits, from the job's answer
 --   count-told, count-known, count-fitted      the count, from that job
 --   width-of-count                             the width, from the count
---   number-told, number-known                  an edge's number
---   edge-told, edge-known                      a number's edge
+--   number-told, number-known, number-fitted   an edge's number
+--   edge-told, edge-known, edge-fitted         a number's edge
 use mathlib.Core.Path.{_≡_, refl, ap, _∙_}
 use mathlib.Core.Bool.{Bool, true, false}
 use mathlib.Core.List.{List}
@@ -70,6 +70,26 @@ module _ (b : List ℕ) where
   pub edge-known : (n : ℕ) (J : Job) → knownJob b ≡ accepted J → edgeAnswer b n ≡ check (ltb n (countOf J)) beyond (accepted (edgeOf J n))
   unfolding edgeAnswer
   edge-known n J q = ap (λ (a : Answer Job). andThen a (λ J. check (ltb n (countOf J)) beyond (accepted (edgeOf J n)))) q
+
+-- the two answers from the job's own, with refusal 4 before the others
+module _ (b : List ℕ) (J : Job) (e : jobAnswer b ≡ accepted J) where
+  pub number-fitted : (s : List ℕ) → numberAnswer b s ≡ check (leb (countOf J) most) over (check (walks J origin s) not-an-edge (accepted (numberOf J s)))
+  unfolding numberAnswer
+  number-fitted s = ap (λ (a : Answer Job). andThen a (λ J. check (walks J origin s) not-an-edge (accepted (numberOf J s)))) (known-of b J e) ∙ go (leb (countOf J) most)
+    where
+      go : (t : Bool) → andThen (check t over (accepted J)) (λ J. check (walks J origin s) not-an-edge (accepted (numberOf J s)))
+          ≡ check t over (check (walks J origin s) not-an-edge (accepted (numberOf J s)))
+      go true = refl
+      go false = refl
+
+  pub edge-fitted : (n : ℕ) → edgeAnswer b n ≡ check (leb (countOf J) most) over (check (ltb n (countOf J)) beyond (accepted (edgeOf J n)))
+  unfolding edgeAnswer
+  edge-fitted n = ap (λ (a : Answer Job). andThen a (λ J. check (ltb n (countOf J)) beyond (accepted (edgeOf J n)))) (known-of b J e) ∙ go (leb (countOf J) most)
+    where
+      go : (t : Bool) → andThen (check t over (accepted J)) (λ J. check (ltb n (countOf J)) beyond (accepted (edgeOf J n)))
+          ≡ check t over (check (ltb n (countOf J)) beyond (accepted (edgeOf J n)))
+      go true = refl
+      go false = refl
 
 -- the width's answer is the width of the count's
 pub width-of-count : (b : List ℕ) → widthAnswer b ≡ andThen (countAnswer b) (λ c. accepted (widthOf c))

@@ -1,8 +1,9 @@
 -- `grid::count` meets its contract: by family, by the job maker's answer, and by the job's shape. Assumes nothing.
 use mathlib.Core.Path.{_≡_, refl, sym, ap, _∙_}
+use Rattle.rules.specs.Blocks.{square}
 use native.Mathlib.Omega.{arith}
 use Rattle.job.proofs.Standing.{Bytes, kept-of, told-of}
-use Rattle.grid.proofs.Grounds.{stands-range}
+use Rattle.grid.proofs.Grounds.{grids-of, stands-range}
 use Rattle.grid.proofs.Counted.{square-reply, count-told-reply, sound-of, count-reply}
 use borrow.Author.Needs.{needs}
 use Rattle.grid.proofs.count.Statement.{statement}
@@ -24,7 +25,7 @@ shape-of-requires : tie.Need-shape-of-requires
 shape-of-requires c κs = sound-of (c .before .before .before .before .before .before .args .block .now) _ (kept-of (c .before .before .before .before .before .before .args .block .now) (c .before .before .of .result) (λ i. omega (arith, c .before .before .before .before .before .shared-slice-known .given i)) (c .before .before .of .ensures) (c .before .if2 .left)) (sym (c .before .before .before .before .is-square .ensures) ∙ c .before .before .before .if1 .left)
 
 count-shape-requires : tie.Need-count-shape-requires
-count-shape-requires c κs = record { job = (kept-of (c .before .before .before .before .before .before .before .args .block .now) (c .before .before .before .of .result) (λ i. omega (arith, c .before .before .before .before .before .before .shared-slice-known .given i)) (c .before .before .before .of .ensures) (c .before .before .if2 .left)) .job; range = stands-range _ _ ((kept-of (c .before .before .before .before .before .before .before .args .block .now) (c .before .before .before .of .result) (λ i. omega (arith, c .before .before .before .before .before .before .shared-slice-known .given i)) (c .before .before .before .of .ensures) (c .before .before .if2 .left)) .stands); shaped = c .shape-of .ensures _ ((kept-of (c .before .before .before .before .before .before .before .args .block .now) (c .before .before .before .of .result) (λ i. omega (arith, c .before .before .before .before .before .before .shared-slice-known .given i)) (c .before .before .before .of .ensures) (c .before .before .if2 .left)) .stands) }
+count-shape-requires c κs = record { job = (kept-of (c .before .before .before .before .before .before .before .args .block .now) (c .before .before .before .of .result) (λ i. omega (arith, c .before .before .before .before .before .before .shared-slice-known .given i)) (c .before .before .before .of .ensures) (c .before .before .if2 .left)) .job; range = stands-range _ _ ((kept-of (c .before .before .before .before .before .before .before .args .block .now) (c .before .before .before .of .result) (λ i. omega (arith, c .before .before .before .before .before .before .shared-slice-known .given i)) (c .before .before .before .of .ensures) (c .before .before .if2 .left)) .stands); grids = grids-of _ _ ((kept-of (c .before .before .before .before .before .before .before .args .block .now) (c .before .before .before .of .result) (λ i. omega (arith, c .before .before .before .before .before .before .shared-slice-known .given i)) (c .before .before .before .of .ensures) (c .before .before .if2 .left)) .stands) (ap square ((kept-of (c .before .before .before .before .before .before .before .args .block .now) (c .before .before .before .of .result) (λ i. omega (arith, c .before .before .before .before .before .before .shared-slice-known .given i)) (c .before .before .before .of .ensures) (c .before .before .if2 .left)) .family) ∙ (sym (c .before .before .before .before .before .is-square .ensures) ∙ c .before .before .before .before .if1 .left)); shaped = c .shape-of .ensures _ ((kept-of (c .before .before .before .before .before .before .before .args .block .now) (c .before .before .before .of .result) (λ i. omega (arith, c .before .before .before .before .before .before .shared-slice-known .given i)) (c .before .before .before .of .ensures) (c .before .before .if2 .left)) .stands) }
 
 returns-3 : tie.Need-returns-3
 returns-3 c = count-reply (c .before .before .before .before .before .before .before .before .args .block .now) ((kept-of (c .before .before .before .before .before .before .before .before .args .block .now) (c .before .before .before .before .of .result) (λ i. omega (arith, c .before .before .before .before .before .before .before .shared-slice-known .given i)) (c .before .before .before .before .of .ensures) (c .before .before .before .if2 .left)) .job) _ (sym (c .before .before .before .before .before .before .is-square .ensures) ∙ c .before .before .before .before .before .if1 .left) ((kept-of (c .before .before .before .before .before .before .before .before .args .block .now) (c .before .before .before .before .of .result) (λ i. omega (arith, c .before .before .before .before .before .before .before .shared-slice-known .given i)) (c .before .before .before .before .of .ensures) (c .before .before .before .if2 .left)) .answer) (c .count-shape .ensures ((kept-of (c .before .before .before .before .before .before .before .before .args .block .now) (c .before .before .before .before .of .result) (λ i. omega (arith, c .before .before .before .before .before .before .before .shared-slice-known .given i)) (c .before .before .before .before .of .ensures) (c .before .before .before .if2 .left)) .job) (stands-range _ _ ((kept-of (c .before .before .before .before .before .before .before .before .args .block .now) (c .before .before .before .before .of .result) (λ i. omega (arith, c .before .before .before .before .before .before .before .shared-slice-known .given i)) (c .before .before .before .before .of .ensures) (c .before .before .before .if2 .left)) .stands)) (c .before .shape-of .ensures _ ((kept-of (c .before .before .before .before .before .before .before .before .args .block .now) (c .before .before .before .before .of .result) (λ i. omega (arith, c .before .before .before .before .before .before .before .shared-slice-known .given i)) (c .before .before .before .before .of .ensures) (c .before .before .before .if2 .left)) .stands)))
