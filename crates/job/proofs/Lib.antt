@@ -1,3 +1,4 @@
 pub mod Blocks
 pub mod Makes
 pub mod Standing
+pub mod Puts

@@ -3,9 +3,13 @@
 --   Reply A        a value, or a refusal number
 --   reply a        an answer of document 01 as a reply
 --   countSays, widthSays, numberSays, buildSays    the reply that each case of an enum stands for
+--   BuiltAs w r after    a write's reply and the output's bytes after it
+use mathlib.Core.Path.{_≡_}
+use mathlib.Core.List.{List}
 use Prim.Native.Nat.{ℕ}
 use Rattle.rules.specs.Refusals.{Answer, refusalNumber}
 use Rattle.rules.specs.Refusals.Answer.{accepted, refused}
+use Rattle.rules.specs.Answers.{Written}
 use Rattle.job.specs.declared.Counted.{Counted}
 use Rattle.job.specs.declared.Counted.the-variants.{Count, Refused as CountRefused}
 use Rattle.job.specs.declared.Sized.{Sized}
@@ -38,3 +42,8 @@ numberSays (NumberRefused r) = refusal r
 abbrev pub buildSays : Built → Reply
 buildSays (Length l) = value l
 buildSays (BuildRefused r) = refusal r
+
+-- the answer r is that of the write w, and so is the output afterwards
+pub record BuiltAs (w : Written) (r : Built) (after : List ℕ) : Type 0 where
+  pub says : buildSays r ≡ reply (w .answer)
+  pub output : after ≡ w .output

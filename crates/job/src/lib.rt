@@ -3,6 +3,10 @@ ghost use mathlib.Core.Path.{_≡_};
 ghost use Prim.Native.Nat.{ℕ, _+_, _*_, _%_, _≤_, _<_};
 ghost use lib.ListN.{length, drop, getD};
 ghost use Rattle.rules.specs.Blocks.{familyOf, square, zeros, formed, sized, sizedCorner, sizedDirected, small, used, isIn, twins};
+ghost use mathlib.Core.List.{_++_};
+ghost use Rattle.rules.specs.Answers.{written};
+ghost use Rattle.rules.specs.Refusals.Answer.{accepted};
+ghost use Rattle.job.specs.Replies.{BuiltAs};
 ghost use Rattle.job.specs.Made.{raised, pairOf, inRange, Twenty, Pairs, madeOf, heldBy, refusedBy};
 
 // A step's letter: `N`, `E` and `D` of families 1 to 5, and `1`, the first digit of families 6 and 7.
@@ -58,6 +62,28 @@ pub enum Numbered {
 pub enum Built {
     Length(usize),
     Refused(u8),
+}
+
+// "7 Room": an edge written to the front of the output, if it fits; nothing behind it is touched.
+pub fn put(edge: &[u8], out: &mut [u8]) -> Built
+    ensures { λ r. ⌜ BuiltAs (written (accepted (now (edge .entry))) (now (out .entry))) r (now (out .exit)) ⌝ }
+{
+    if out.len() < edge.len() {
+        return Built::Refused(7);
+    }
+    copy(edge, out);
+    Built::Length(edge.len())
+}
+
+fn copy(edge: &[u8], out: &mut [u8])
+    requires { ⌜ length (now edge) ≤ length (now out) ⌝ }
+    ensures { λ _. ⌜ now (out .exit) ≡ now (edge .entry) ++ drop (length (now (edge .entry))) (now (out .entry)) ⌝ }
+{
+    let mut i: usize = 0;
+    while i < edge.len() {
+        out[i] = edge[i];
+        i += 1;
+    }
 }
 
 // A byte raised by 128: what is signed there is unsigned here.
