@@ -6,3 +6,5 @@ pub mod Reading
 pub mod ReadingBack
 pub mod Writing
 pub mod Memos
+pub mod Knowing
+pub mod Calls

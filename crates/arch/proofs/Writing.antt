@@ -3,6 +3,7 @@
 --
 --   wide, with-d                               the last step: an arch, which is not too wide, or `D`
 --   spot-pos, spot-rem, spot-quot              the two parts' numbers, from what is left where the number falls
+--   put-byte                                   one byte more is stored behind what is written
 --   written-none, written-dee, written-arch    an empty path, one that ends in `D`, one that ends in an arch
 --   written-length                             as many bytes as there were
 --   first-room, first-length, part-room        the bytes that are left for an arch's second part
@@ -91,7 +92,7 @@ module _ {d : Bool} {v m r i rest c : ℕ} (f : Falls d v m r i rest) (ec : c �
   spot-quot = div-lt-iff-lt-mul spot-pos .1 (rw (ec, mul-comm) (f .fits))
 
 -- ---- the bytes
-put-byte : (P L : List ℕ) (k b : ℕ) → length P ≡ k → k < length L → set (P ++ drop k L) k b ≡ (P ++ (b ∷ [])) ++ drop (k + 1) L
+pub put-byte : (P L : List ℕ) (k b : ℕ) → length P ≡ k → k < length L → set (P ++ drop k L) k b ≡ (P ++ (b ∷ [])) ++ drop (k + 1) L
 put-byte P L k b l h =
     let s : suc k ≡ k + 1 = omega arith in
     ap (λ (z : List ℕ). set (P ++ z) k b) (drop-cons L k 0 h) ∙ set-at P (getD L k 0) (drop (suc k) L) b k l

@@ -4,3 +4,4 @@ pub mod Answers
 pub mod Reading
 pub mod ReadingBack
 pub mod Memo
+pub mod Calls

@@ -14,3 +14,4 @@ pub mod Grounds
 pub mod Counted
 pub mod Tabled
 pub mod Worded
+pub mod Builds

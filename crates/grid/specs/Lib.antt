@@ -7,3 +7,4 @@ pub mod Edges
 pub mod Shapes
 pub mod Calls
 pub mod Numbering
+pub mod Spelling

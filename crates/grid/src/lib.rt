@@ -1,8 +1,8 @@
 // Families 1, 3, 6 and 7: count, number and build over the one grid that the four become by a shear.
 ghost use mathlib.Core.Path.{_≡_};
-ghost use Rattle.rules.specs.Answers.{countAnswer, numberAnswer};
-ghost use Rattle.job.specs.Replies.{reply, countSays, numberSays};
-ghost use Rattle.grid.specs.Calls.{forGrid, Countable, CountsAs, NumbersAs};
+ghost use Rattle.rules.specs.Answers.{buildAnswer, countAnswer, numberAnswer};
+ghost use Rattle.job.specs.Replies.{reply, countSays, numberSays, BuiltAs};
+ghost use Rattle.grid.specs.Calls.{forGrid, forGridWritten, BuildsAs, Countable, CountsAs, NumbersAs};
 
 mod column;
 mod cone;
@@ -13,8 +13,10 @@ mod letters;
 mod numbering;
 mod plan;
 mod shape;
+mod spelling;
 mod table;
 
+use job::Built;
 use job::Counted;
 use job::Job;
 use job::Numbered;
@@ -93,4 +95,55 @@ fn number_shape(s: Shape, edge: &[u8]) -> Numbered
     let sa = s.sa;
     let sc = s.sc;
     numbering::number(&sa, &sc, s.k, s.f, s.top, s.ex, s.ey, s.corner, edge)
+}
+
+// The edge of a number, written to the front of the output (000, algorithms 2 and 6; 001, algorithm 8).
+pub fn build(block: &[u8], number: u64, out: &mut [u8]) -> Built
+    ensures { λ r. ⌜ BuiltAs (forGridWritten (now (block .entry)) (buildAnswer (now (block .entry)) number (now (out .entry))) (now (out .entry))) r (now (out .exit)) ⌝ }
+{
+    if job::is_square(block) {
+        return Built::Refused(11);
+    }
+    let made = Job::of(block);
+    let refusal = made.refusal;
+    if refusal != 0 {
+        return Built::Refused(refusal);
+    }
+    let job = made.job;
+    let s = shape::shape_of(job);
+    build_shape(s, number, out)
+}
+
+fn build_shape(s: Shape, number: u64, out: &mut [u8]) -> Built
+    requires { ⌜ Countable s ⌝ }
+    ensures { λ r. ⌜ BuildsAs s number (now (out .entry)) (now (out .exit)) r ⌝ }
+{
+    let state = s.state;
+    if state == 1 {
+        return Built::Refused(4);
+    }
+    if state == 2 {
+        return Built::Refused(6);
+    }
+    let sa = s.sa;
+    let sc = s.sc;
+    let mut buf = [0u8; 128];
+    let spelt = spelling::spell_edge(
+        &sa,
+        &sc,
+        s.k,
+        s.f,
+        s.top,
+        s.ex,
+        s.ey,
+        s.corner,
+        number,
+        &mut buf,
+    );
+    let refusal = spelt.state;
+    if refusal != 0 {
+        return Built::Refused(refusal);
+    }
+    let at = spelt.at;
+    job::put(&buf[at..], out)
 }

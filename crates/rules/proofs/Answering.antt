@@ -4,7 +4,7 @@
 --   count-told, count-known, count-fitted      the count, from that job
 --   width-of-count                             the width, from the count
 --   number-told, number-known, number-fitted   an edge's number
---   edge-told, edge-known, edge-fitted         a number's edge
+--   edge-told, edge-known, edge-fitted         a number's edge; build-of: that edge written
 use mathlib.Core.Path.{_≡_, refl, ap, _∙_}
 use mathlib.Core.Bool.{Bool, true, false}
 use mathlib.Core.List.{List}
@@ -22,7 +22,7 @@ use Rattle.rules.specs.Refusals.{Refusal, Answer, check, andThen}
 use Rattle.rules.specs.Refusals.Refusal.{over, not-an-edge, beyond}
 use Rattle.rules.specs.Refusals.Answer.{accepted, refused}
 use Rattle.rules.specs.Blocks.{jobAnswer}
-use Rattle.rules.specs.Answers.{most, knownJob, countAnswer, widthAnswer, numberAnswer, edgeAnswer}
+use Rattle.rules.specs.Answers.{most, knownJob, countAnswer, widthAnswer, numberAnswer, edgeAnswer, written, buildAnswer}
 
 module _ (b : List ℕ) where
   pub known-told : (r : Refusal) → jobAnswer b ≡ refused r → knownJob b ≡ refused r
@@ -90,6 +90,10 @@ module _ (b : List ℕ) (J : Job) (e : jobAnswer b ≡ accepted J) where
           ≡ check t over (check (ltb n (countOf J)) beyond (accepted (edgeOf J n)))
       go true = refl
       go false = refl
+
+pub build-of : (b : List ℕ) (n : ℕ) (output : List ℕ) → buildAnswer b n output ≡ written (edgeAnswer b n) output
+unfolding buildAnswer
+build-of b n output = refl
 
 -- the width's answer is the width of the count's
 pub width-of-count : (b : List ℕ) → widthAnswer b ≡ andThen (countAnswer b) (λ c. accepted (widthOf c))

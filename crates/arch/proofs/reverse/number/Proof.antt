@@ -1,8 +1,8 @@
 -- The path that is read starts at the first byte and ends at (n, n); or no walk goes by the bytes.
 use Rattle.arch.proofs.ReadingBack.{got-good, got-bad, none-way, none-front, none-size, is-edge}
 use borrow.Author.Needs.{needs}
-use Rattle.arch.proofs.backward.number.Statement.{statement}
-use Rattle.arch.proofs.backward.number.Tie as tie
+use Rattle.arch.proofs.reverse.number.Statement.{statement}
+use Rattle.arch.proofs.reverse.number.Tie as tie
 
 read-requires : tie.Need-read-requires
 read-requires c κs = search needs

@@ -5,15 +5,15 @@ use Rattle.arch.proofs.ReadingBack.{part-good, part-bad, ok-none, ok-en
 use Prim.Native.Nat.{ℕ, _+_, _-_, _*_, _<_}
 use borrow.Fn.Kinds.{In}
 use borrow.Fn.PlainCycle.{Measures, is, falls, and}
-use Rattle.arch.proofs.backward.closing.Reads as closing
-use Rattle.arch.proofs.backward.closing.Kinds as closing-kinds
-use Rattle.arch.proofs.backward.+closing+read.Lts-closing as closing-lts
-use Rattle.arch.proofs.backward.read.Reads as read
-use Rattle.arch.proofs.backward.read.Kinds as read-kinds
-use Rattle.arch.proofs.backward.+closing+read.Lts-read as read-lts
+use Rattle.arch.proofs.reverse.closing.Reads as closing
+use Rattle.arch.proofs.reverse.closing.Kinds as closing-kinds
+use Rattle.arch.proofs.reverse.+closing+read.Lts-closing as closing-lts
+use Rattle.arch.proofs.reverse.read.Reads as read
+use Rattle.arch.proofs.reverse.read.Kinds as read-kinds
+use Rattle.arch.proofs.reverse.+closing+read.Lts-read as read-lts
 use Rattle.arch.proofs.sums.lower.Reads as lower-reads
-use Rattle.arch.proofs.backward.+closing+read.{statement}
-use Rattle.arch.proofs.backward.+closing+read.Tie.{close}
+use Rattle.arch.proofs.reverse.+closing+read.{statement}
+use Rattle.arch.proofs.reverse.+closing+read.Tie.{close}
 
 abbrev μ-closing : Measures 2 closing-kinds.ps ℕ
 μ-closing κs a = 2 * a .1 .1 .1 .0

@@ -1,0 +1,149 @@
+-- The calls on a block: what the crate's own results say of the block's job is document 01's answer. One argument for all three families.
+-- Assumes nothing.
+--
+--   Sort family d v              what the family has from the theory of arches over (d, v)
+--   dyck-sort, schroder-sort, motzkin-sort
+--   count-refused, count-fits    the count's answer
+--   number-refused, number-fits  the number's
+--   build-refused, build-fits    the edge's
+--   beyond-built, short-built, room-built    an edge of n, written: refusal 6, refusal 7, and neither
+--   copied-next                  one byte more is copied
+use mathlib.Core.Path.{_≡_, refl, sym, ap, ap₂, _∙_, subst}
+use mathlib.Core.Bool.{Bool, true, false}
+use mathlib.Core.List.{List, _++_}
+use Prim.Native.Nat.{ℕ, _+_, _≤_, _<_}
+use native.Mathlib.Omega.{arith}
+use native.Mathlib.Numerals.{add-one}
+use lib.Dec.{ltb}
+use lib.ListN.{length, take, drop, getD, set}
+use lib.Seq.{take-at, take-suc, length-take-le}
+use borrow.Author.Tests.{le-leb, lt-leb, lt-ltb, le-ltb}
+use Rattle.howmany.specs.Choose.{pick}
+use Rattle.howmany.proofs.Choices.{is-true, is-false}
+use Rattle.arches.specs.Counts.{count}
+use Rattle.arches.specs.Trees.{number, build, print, treeOf}
+use Rattle.rules.specs.Points.{origin}
+use Rattle.rules.specs.Jobs.{Job}
+use Rattle.rules.specs.Jobs.Job.{dyck, schroder, motzkin}
+use Rattle.rules.specs.Valid.{walks, Valid}
+use Rattle.rules.specs.Counts.{C, S, M, countOf}
+use Rattle.rules.specs.Numbers.{numberOf, edgeOf}
+use Rattle.rules.specs.Refusals.{Answer, refusalNumber, check, andThen}
+use Rattle.rules.specs.Refusals.Refusal.{not-an-edge, beyond, kind}
+use Rattle.rules.specs.Refusals.Answer.{accepted, refused}
+use Rattle.rules.specs.Blocks.{familyOf, square}
+use Rattle.rules.specs.Answers as rules
+use Rattle.rules.specs.Answers.{knownJob, countAnswer, numberAnswer, edgeAnswer, written, buildAnswer}
+use Rattle.rules.proofs.ArchPaths.{Arched, valid-walk, walk-valid, dyck-arched, schroder-arched, motzkin-arched}
+use Rattle.job.specs.Replies.{reply}
+use Rattle.job.specs.Replies.Reply.{value, refusal}
+use Rattle.job.specs.declared.Built.{Built}
+use Rattle.job.specs.declared.Built.the-variants.{Length, Refused}
+use Rattle.arch.specs.Answers.{Numbered, Written}
+use Rattle.arch.specs.Calls.{forArch, forArchWritten, RefusedAs, Fits, answerSays, edgeWritten}
+use Rattle.job.specs.Replies.{BuiltAs}
+use Rattle.arch.proofs.Writing.{put-byte}
+
+pub record Sort (family : ℕ → Job) (d : Bool) (v : ℕ) : Type 0 where
+  pub arched : Arched family d v
+  pub counts : (n : ℕ) → countOf (family n) ≡ count d v n
+  pub numbers : (n : ℕ) (s : List ℕ) → numberOf (family n) s ≡ number d v (treeOf d v s)
+  pub edges : (n r : ℕ) → edgeOf (family n) r ≡ print d v (build d v n n r)
+
+pub dyck-sort : Sort dyck false 0
+unfolding countOf C numberOf edgeOf
+dyck-sort = record { arched = dyck-arched; counts = λ n. refl; numbers = λ n s. refl; edges = λ n r. refl }
+
+pub schroder-sort : Sort schroder true 0
+unfolding countOf S numberOf edgeOf
+schroder-sort = record { arched = schroder-arched; counts = λ n. refl; numbers = λ n s. refl; edges = λ n r. refl }
+
+pub motzkin-sort : Sort motzkin true 1
+unfolding countOf M numberOf edgeOf
+motzkin-sort = record { arched = motzkin-arched; counts = λ n. refl; numbers = λ n s. refl; edges = λ n r. refl }
+
+-- ---- an edge that is written
+
+module _ (d : Bool) (v n r : ℕ) (out : List ℕ) where
+  pub beyond-built : count d v n ≤ r → BuiltAs (edgeWritten d v n r out) (Refused 6) out
+  unfolding written refusalNumber
+  beyond-built l = rw (le-ltb r (count d v n) l) (record { says = refl; output = refl })
+
+  module _ (l : r < count d v n) (old new : List ℕ) (k : ℕ) (w : Written d v n r old new k) where
+    pub short-built : length out < k → BuiltAs (edgeWritten d v n r out) (Refused 7) out
+    unfolding written refusalNumber
+    short-built s = rw (lt-ltb r (count d v n) l, w .long, lt-leb k (length out) s) (record { says = refl; output = refl })
+
+    pub room-built : k ≤ length out → (after : List ℕ) → after ≡ take k new ++ drop k out → BuiltAs (edgeWritten d v n r out) (Length k) after
+    unfolding written
+    room-built s after e =
+        let front : take k new ≡ print d v (build d v n n r) = ap (take k) (w .shown) ∙ take-at (print d v (build d v n n r)) (drop k old) k (w .long) in
+        rw (lt-ltb r (count d v n) l, w .long, le-leb k (length out) s) (record { says = refl; output = rw front at e })
+
+pub copied-next : (s out old : List ℕ) (i : ℕ) → out ≡ take i s ++ drop i old → i < length s → i < length old → set out i (getD s i 0) ≡ take (i + 1) s ++ drop (i + 1) old
+copied-next s out old i e h g =
+    ap (λ (z : List ℕ). set z i (getD s i 0)) e ∙ put-byte (take i s) old i (getD s i 0) (length-take-le i s (omega arith)) g
+    ∙ ap (λ (z : List ℕ). z ++ drop (i + 1) old) (sym (take-suc s i 0 h) ∙ ap (λ (z : ℕ). take z s) (sym (add-one i)))
+
+-- ---- the answers on a block
+
+module _ (b : List ℕ) where
+  for-then : {A B : Type 0} (a : Answer A) (f : A → Answer B) → forArch b (andThen a f) ≡ andThen (forArch b a) f
+  for-then {A} {B} a f = go (square (familyOf b))
+    where
+      go : (t : Bool) → pick t (andThen a f) (refused kind) ≡ andThen (pick t a (refused kind)) f
+      go true = refl
+      go false = refl
+
+  for-written : (a : Answer (List ℕ)) (out : List ℕ) → forArchWritten b (written a out) out ≡ written (forArch b a) out
+  unfolding written
+  for-written a out = go (square (familyOf b))
+    where
+      go : (t : Bool) → pick t (written a out) (record { answer = refused kind; output = out }) ≡ written (pick t a (refused kind)) out
+      go true = refl
+      go false = refl
+
+  then-refused : {B : Type 0} {r : ℕ} (f : Job → Answer B) (k : RefusedAs b r) → forArch b (andThen (knownJob b) f) ≡ refused (k .refusal)
+  then-refused {B} f k = for-then (knownJob b) f ∙ ap (λ (a : Answer Job). andThen a f) (k .answer)
+
+  then-fits : {B : Type 0} {J : Job} {n most : ℕ} (f : Job → Answer B) → Fits b J n most → forArch b (andThen (knownJob b) f) ≡ f J
+  then-fits {B} f k = for-then (knownJob b) f ∙ ap (λ (a : Answer Job). andThen a f) (k .answer)
+
+  refused-says : {r : ℕ} (k : RefusedAs b r) (a : Answer ℕ) → a ≡ refused (k .refusal) → refusal r ≡ reply a
+  refused-says k a e = ap refusal (k .number) ∙ sym (ap reply e)
+
+  pub count-refused : {r : ℕ} → RefusedAs b r → refusal r ≡ reply (forArch b (countAnswer b))
+  unfolding countAnswer
+  count-refused k = refused-says k (forArch b (countAnswer b)) (then-refused (λ J. accepted (countOf J)) k)
+
+  pub number-refused : {r : ℕ} (s : List ℕ) → RefusedAs b r → refusal r ≡ reply (forArch b (numberAnswer b s))
+  unfolding numberAnswer
+  number-refused s k = refused-says k (forArch b (numberAnswer b s)) (then-refused (λ J. check (walks J origin s) not-an-edge (accepted (numberOf J s))) k)
+
+  pub build-refused : {r : ℕ} (q : ℕ) (out : List ℕ) → RefusedAs b r → BuiltAs (forArchWritten b (buildAnswer b q out) out) (Refused r) out
+  unfolding buildAnswer written edgeAnswer
+  build-refused q out k =
+      let e = for-written (edgeAnswer b q) out ∙ ap (λ (a : Answer (List ℕ)). written a out) (then-refused (λ J. check (ltb q (countOf J)) beyond (accepted (edgeOf J q))) k) in
+      rw e (record { says = ap refusal (k .number); output = refl })
+
+  module _ {family : ℕ → Job} {d : Bool} {v n most : ℕ} (sort : Sort family d v) (k : Fits b (family n) n most) where
+    pub count-fits : (c : ℕ) → c ≡ count d v n → value c ≡ reply (forArch b (countAnswer b))
+    unfolding countAnswer
+    count-fits c e = ap value (e ∙ sym (sort .counts n)) ∙ sym (ap reply (then-fits (λ J. accepted (countOf J)) k))
+
+    pub number-fits : (good : Bool) (r : ℕ) (s : List ℕ) → Numbered good d v n r s → answerSays good r ≡ reply (forArch b (numberAnswer b s))
+    unfolding numberAnswer Valid
+    number-fits good r s w = ap reply (sym (then-fits (λ J. check (walks J origin s) not-an-edge (accepted (numberOf J s))) k ∙ go good w))
+      where
+        go : (good : Bool) → Numbered good d v n r s → check (walks (family n) origin s) not-an-edge (accepted (numberOf (family n) s)) ≡ check good not-an-edge (accepted r)
+        go true w = ap (λ (t : Bool). check t not-an-edge (accepted (numberOf (family n) s))) (is-true (walks (family n) origin s) (walk-valid family d v (sort .arched) n s (w .walk))) ∙ ap accepted (sort .numbers n s ∙ sym (w .numbered))
+        go false w = ap (λ (t : Bool). check t not-an-edge (accepted (numberOf (family n) s))) (is-false (walks (family n) origin s) (λ t. w (valid-walk family d v (sort .arched) n s t)))
+
+    pub build-fits : (r : ℕ) (out : List ℕ) (a : Built) (after : List ℕ) → BuiltAs (edgeWritten d v n r out) a after → BuiltAs (forArchWritten b (buildAnswer b r out) out) a after
+    unfolding buildAnswer edgeAnswer
+    build-fits r out a after w =
+        let e : forArch b (edgeAnswer b r) ≡ check (ltb r (countOf (family n))) beyond (accepted (edgeOf (family n) r)) =
+        then-fits (λ J. check (ltb r (countOf J)) beyond (accepted (edgeOf J r))) k in
+        let g : forArchWritten b (buildAnswer b r out) out ≡ edgeWritten d v n r out =
+        for-written (edgeAnswer b r) out ∙ ap (λ (a : Answer (List ℕ)). written a out) (e ∙ ap₂ (λ (c : ℕ) (s : List ℕ). check (ltb r c) beyond (accepted s)) (sort .counts n) (sort .edges n r)) in
+        subst (λ (x : rules.Written). BuiltAs x a after) (sym g) w
