@@ -1,0 +1,49 @@
+-- The crate of a block's family answers for it. Assumes nothing.
+--
+--   of-arch, of-grid              the answer of the crate that has the family; written-arch, written-grid: the same for a write
+--   width-value, width-refusal    the width's reply, from the count's
+use mathlib.Core.Path.{_≡_, refl, sym, ap, _∙_, subst}
+use mathlib.Core.Bool.{Bool, true, false}
+use mathlib.Core.List.{List}
+use Prim.Native.Nat.{ℕ}
+use Rattle.rules.specs.Width.{widthOf}
+use Rattle.rules.specs.Blocks.{familyOf, square}
+use Rattle.rules.specs.Refusals.{Answer, andThen, refusalNumber}
+use Rattle.rules.specs.Refusals.Answer.{accepted, refused}
+use Rattle.rules.specs.Answers.{countAnswer, widthAnswer, Written}
+use Rattle.rules.proofs.Answering.{width-of-count}
+use Rattle.job.specs.Replies.{Reply, reply, BuiltAs}
+use Rattle.job.specs.declared.Built.{Built}
+use Rattle.job.specs.Replies.Reply.{value, refusal}
+use Rattle.arch.specs.Calls.{forArch, forArchWritten}
+use Rattle.grid.specs.Calls.{forGrid, forGridWritten}
+
+pub of-arch : {A : Type 0} (b : List ℕ) (a : Answer A) → square (familyOf b) ≡ true → forArch b a ≡ a
+of-arch b a e = rw e refl
+
+pub of-grid : {A : Type 0} (b : List ℕ) (a : Answer A) → square (familyOf b) ≡ false → forGrid b a ≡ a
+of-grid b a e = rw e refl
+
+pub written-arch : (b output after : List ℕ) (w : Written) (r : Built) → square (familyOf b) ≡ true → BuiltAs (forArchWritten b w output) r after → BuiltAs w r after
+written-arch b output after w r e h = subst (λ (x : Written). BuiltAs x r after) (rw e refl) h
+
+pub written-grid : (b output after : List ℕ) (w : Written) (r : Built) → square (familyOf b) ≡ false → BuiltAs (forGridWritten b w output) r after → BuiltAs w r after
+written-grid b output after w r e h = subst (λ (x : Written). BuiltAs x r after) (rw e refl) h
+
+-- a reply, its value changed by f
+abbrev pub along : (ℕ → ℕ) → Reply → Reply
+along f (value v) = value (f v)
+along f (refusal r) = refusal r
+
+pub width-reply : (b : List ℕ) → reply (widthAnswer b) ≡ along widthOf (reply (countAnswer b))
+width-reply b = ap reply (width-of-count b) ∙ go (countAnswer b)
+  where
+    go : (a : Answer ℕ) → reply (andThen a (λ x. accepted (widthOf x))) ≡ along widthOf (reply a)
+    go (accepted x) = refl
+    go (refused r) = refl
+
+pub width-value : (b : List ℕ) (c w : ℕ) → w ≡ widthOf c → value c ≡ reply (countAnswer b) → value w ≡ reply (widthAnswer b)
+width-value b c w q e = ap value q ∙ ap (along widthOf) e ∙ sym (width-reply b)
+
+pub width-refusal : (b : List ℕ) (k : ℕ) → refusal k ≡ reply (countAnswer b) → refusal k ≡ reply (widthAnswer b)
+width-refusal b k e = ap (along widthOf) e ∙ sym (width-reply b)
