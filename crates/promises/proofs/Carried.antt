@@ -1,0 +1,135 @@
+-- Demand 3 of the calls, from their contracts alone: b is any block that `count` accepts, and c its count. Assumes nothing.
+--
+--   stood            the job of an accepted block
+--   number-valid     a valid edge gets a number below c, which is how many valid edges stand before it
+--   number-invalid   any other string is refused with 5
+--   number-alone     two edges with one number are equal
+--   build-each       every number below c is built, unless it is refused with 7
+--   build-beyond     any other number is refused with 6
+--   built-number     numbering what was built gives the number back
+--   number-built     building the number of an edge gives the edge back where it has room, and touches nothing behind it
+use mathlib.Core.Path.{_≡_, refl, sym, ap, _∙_, subst}
+use mathlib.Core.Logic.{_⊎_, inl, inr}
+use mathlib.Core.Bool.{Bool, true, false}
+use mathlib.Core.List.{List, _++_}
+use Prim.Native.Nat.{ℕ, _≤_, _<_}
+use native.Mathlib.Omega.{arith}
+use lib.Dec.{leb}
+use lib.Seq.{take-append-seam}
+use lib.ListN.{length, take, drop}
+use Rattle.howmany.specs.HowMany.{HowMany}
+use Rattle.rules.specs.Jobs.{Job}
+use Rattle.rules.specs.Valid.{Valid}
+use Rattle.rules.specs.Order.{Before}
+use Rattle.rules.specs.Counts.{countOf}
+use Rattle.rules.specs.Numbers.{numberOf, edgeOf}
+use Rattle.rules.specs.Refusals.{Answer, Refusal, refusalNumber}
+use Rattle.rules.specs.Refusals.Refusal.{not-an-edge, beyond, room}
+use Rattle.rules.specs.Refusals.Answer.{accepted, refused}
+use Rattle.rules.specs.Answers.{knownJob, countAnswer, numberAnswer, edgeAnswer, written, buildAnswer, Written}
+use Rattle.rules.proofs.Answering.{count-told, count-known, build-of}
+use Rattle.rules.proofs.Demand3.{accepted-one, demand-3}
+use Rattle.howmany.specs.Choose.{pick}
+use Rattle.rules.proofs.Hence as hence
+use Rattle.job.specs.declared.Numbered.{Numbered}
+use Rattle.job.specs.declared.Numbered.the-variants.{Number, Refused as NumberRefused}
+use Rattle.job.specs.declared.Built.{Built}
+use Rattle.job.specs.declared.Built.the-variants.{Length, Refused as BuildRefused}
+use Rattle.job.specs.Replies.{Reply, reply, numberSays, buildSays, BuiltAs}
+use Rattle.job.specs.Replies.Reply.{value, refusal}
+use Rattle.promises.specs.Contracts.{Numbers, Builds, Accepted}
+use Rattle.promises.proofs.One.{numbered-one, says-one}
+
+IsValue : Reply → Type 0
+IsValue (value v) = Unit {0}
+IsValue (refusal k) = ⊥
+
+value-not : (v k : ℕ) → value v ≡ refusal k → ⊥
+unfolding IsValue
+value-not v k e = subst IsValue e tt
+
+-- a value was accepted
+taken : (a : Answer ℕ) (v : ℕ) → value v ≡ reply a → a ≡ accepted v
+taken (accepted u) v e = cc
+taken (refused r) v e = absurd (value-not v (refusalNumber r) e)
+
+-- what was written of an edge: its length, and its bytes at the output's front
+record Put (a : Answer (List ℕ)) (output : List ℕ) (l : ℕ) (after : List ℕ) : Type 0 where
+  edge : List ℕ
+  is : a ≡ accepted edge
+  long : length edge ≡ l
+  bytes : after ≡ edge ++ drop (length edge) output
+
+put-of : (a : Answer (List ℕ)) (output after : List ℕ) (l : ℕ) → BuiltAs (written a output) (Length l) after → Put a output l after
+unfolding written
+put-of (refused r) output after l h = absurd (value-not l (refusalNumber r) (h .says))
+put-of (accepted e) output after l h = go (leb (length e) (length output)) h
+  where
+    go : (t : Bool) → BuiltAs (pick t (record { answer = accepted (length e); output = e ++ drop (length e) output }) (record { answer = refused room; output = output })) (Length l) after → Put (accepted e) output l after
+    go true h = record { edge = e; is = refl; long = accepted-one _ _ (taken (accepted (length e)) l (h .says)); bytes = h .output }
+    go false h = absurd (value-not l (refusalNumber room) (h .says))
+
+-- an edge that is to be written is written, or refused with 7
+written-or : (e output after : List ℕ) (x : Built) → BuiltAs (written (accepted e) output) x after → (x ≡ Length (length e)) ⊎ (x ≡ BuildRefused 7)
+unfolding written refusalNumber
+written-or e output after x h = go (leb (length e) (length output)) h
+  where
+    go : (t : Bool) → BuiltAs (pick t (record { answer = accepted (length e); output = e ++ drop (length e) output }) (record { answer = refused room; output = output })) x after
+        → (x ≡ Length (length e)) ⊎ (x ≡ BuildRefused 7)
+    go true h = inl (says-one _ x (Length (length e)) (h .says) refl)
+    go false h = inr (says-one _ x (BuildRefused 7) (h .says) refl)
+
+-- what an accepted block stands for
+pub record Stands (b : List ℕ) (c : ℕ) : Type 0 where
+  pub job : Job
+  pub known : knownJob b ≡ accepted job
+  pub count : countOf job ≡ c
+
+module _ (b : List ℕ) (c : ℕ) (ok : Accepted b c) where
+  pub stood : Stands b c
+  stood = go (knownJob b) refl
+    where
+      go : (a : Answer Job) → knownJob b ≡ a → Stands b c
+      go (accepted J) e = record { job = J; known = e; count = accepted-one _ _ (sym (count-known b J e) ∙ taken (countAnswer b) c ok) }
+      go (refused r) e = absurd (value-not c (refusalNumber r) (ok ∙ ap reply (count-told b r e)))
+
+  pub number-valid : (e : List ℕ) (s : Numbered) → Valid (stood .job) e → Numbers b e s
+      → (r : ℕ) × (s ≡ Number r) × (r < c) × HowMany (λ f. Valid (stood .job) f × Before (stood .job) f e) r
+  number-valid e s v h =
+      let q = hence.number-valid b (stood .job) (stood .known) e v in
+      let d = demand-3 b (stood .job) (hence.known-job b (stood .job) (stood .known) .job) in
+      (numberOf (stood .job) e, numbered-one _ s (Number (numberOf (stood .job) e)) h (ap reply (sym q)), omega (arith, d .below e v, stood .count), d .places e v)
+
+  pub number-invalid : (e : List ℕ) (s : Numbered) → (Valid (stood .job) e → ⊥) → Numbers b e s → s ≡ NumberRefused 5
+  unfolding refusalNumber
+  number-invalid e s v h = numbered-one _ s (NumberRefused 5) h (ap reply (sym (hence.number-refused b (stood .job) (stood .known) e v)))
+
+  pub number-alone : (e f : List ℕ) (r : ℕ) → Numbers b e (Number r) → Numbers b f (Number r) → e ≡ f
+  number-alone e f r p q = hence.number-alone b (stood .job) (stood .known) e f r (taken (numberAnswer b e) r p) (taken (numberAnswer b f) r q)
+
+  pub build-each : (r : ℕ) (output after : List ℕ) (x : Built) → r < c → Builds b r output x after
+      → (x ≡ Length (length (edgeOf (stood .job) r))) ⊎ (x ≡ BuildRefused 7)
+  build-each r output after x l h =
+      written-or (edgeOf (stood .job) r) output after x
+      (subst (λ (w : Written). BuiltAs w x after) (build-of b r output ∙ ap (λ (a : Answer (List ℕ)). written a output) (hence.edge-below b (stood .job) (stood .known) r (omega (arith, stood .count)))) h)
+
+  pub build-beyond : (r : ℕ) (output after : List ℕ) (x : Built) → c ≤ r → Builds b r output x after → (x ≡ BuildRefused 6) × (after ≡ output)
+  unfolding written refusalNumber
+  build-beyond r output after x l h =
+      let h2 : BuiltAs (written (refused beyond) output) x after
+      = subst (λ (w : Written). BuiltAs w x after) (build-of b r output ∙ ap (λ (a : Answer (List ℕ)). written a output) (hence.edge-refused b (stood .job) (stood .known) r (omega (arith, stood .count)))) h in
+      (says-one _ x (BuildRefused 6) (h2 .says) refl, h2 .output)
+
+  pub built-number : (r l : ℕ) (output after : List ℕ) (s : Numbered) → Builds b r output (Length l) after → Numbers b (take l after) s → s ≡ Number r
+  built-number r l output after s h n =
+      let p = put-of (edgeAnswer b r) output after l (subst (λ (w : Written). BuiltAs w (Length l) after) (build-of b r output) h) in
+      let front : take l after ≡ p .edge = ap (λ (k : ℕ). take k after) (sym (p .long)) ∙ ap (take (length (p .edge))) (p .bytes) ∙ take-append-seam (p .edge) (drop (length (p .edge)) output) in
+      numbered-one _ s (Number r) n (ap reply (sym (hence.built-number b (stood .job) (stood .known) r (p .edge) (p .is)) ∙ ap (numberAnswer b) (sym front)))
+
+  pub number-built : (e : List ℕ) (r : ℕ) (output after : List ℕ) (x : Built) → Numbers b e (Number r) → length e ≤ length output → Builds b r output x after
+      → (x ≡ Length (length e)) × (after ≡ e ++ drop (length e) output)
+  number-built e r output after x n l h =
+      let q = hence.number-built b (stood .job) (stood .known) e r (taken (numberAnswer b e) r n) in
+      let h2 : BuiltAs (record { answer = accepted (length e); output = e ++ drop (length e) output }) x after
+      = subst (λ (w : Written). BuiltAs w x after) (hence.build-room b r output e q l) h in
+      (says-one _ x (Length (length e)) (h2 .says) refl, h2 .output)
