@@ -1,0 +1,27 @@
+// All edges of a job, both ways: tables 1 to 5 of document 000 and table 1 of 001.
+use crate::blocks::corner;
+use crate::blocks::with_t;
+use crate::say;
+
+// The edges of the numbers up to and including the first that is refused.
+fn table(block: &[u8], rows: u64) {
+    for r in 0..rows {
+        say::build(block, r);
+    }
+    say::build(block, rows);
+}
+
+pub(crate) fn run() {
+    say::text(b"000, table 1\n");
+    table(&corner(1, 3, 3), 20);
+    say::text(b"000, table 2\n");
+    table(&corner(2, 3, 3), 5);
+    say::text(b"000, table 3\n");
+    table(&corner(3, 3, 2), 25);
+    say::text(b"000, table 4\n");
+    table(&corner(4, 3, 3), 22);
+    say::text(b"000, table 5\n");
+    table(&corner(5, 3, 3), 4);
+    say::text(b"001, table 1\n");
+    table(&with_t(6, 3, 1), 6);
+}
