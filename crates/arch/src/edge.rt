@@ -1,9 +1,11 @@
 // The letters of an edge, and the answer to the number of a string of bytes.
-pub(crate) const NORTH: u8 = 78;
+use job::Step;
 
-pub(crate) const EAST: u8 = 69;
+pub(crate) const NORTH: u8 = Step::NORTH;
 
-pub(crate) const DIAGONAL: u8 = 68;
+pub(crate) const EAST: u8 = Step::EAST;
+
+pub(crate) const DIAGONAL: u8 = Step::DIAGONAL;
 
 // The number of an edge, or that the bytes are none.
 pub(crate) struct Answer {

@@ -2,6 +2,7 @@
 ghost use mathlib.Core.Path.{_≡_};
 ghost use Prim.Native.Nat.{_<_};
 ghost use Rattle.grid.specs.Letters.{placeOf, glyphOf};
+use job::Step;
 
 fn wide(x: u8) -> usize
     ensures { λ r. ⌜ r ≡ x ⌝ }
@@ -14,24 +15,24 @@ pub(crate) fn place_of(corner: bool, b: u8) -> usize
     ensures { λ r. ⌜ r ≡ placeOf corner b ⌝ }
 {
     if corner {
-        if b == 78 {
+        if b == Step::NORTH {
             return 0;
         }
-        if b == 69 {
+        if b == Step::EAST {
             return 1;
         }
-        if b == 68 {
+        if b == Step::DIAGONAL {
             return 2;
         }
         return 8;
     }
-    if b < 49 {
+    if b < Step::FIRST {
         return 8;
     }
     if 56 < b {
         return 8;
     }
-    wide(b) - 49
+    wide(b) - Step::FIRST as usize
 }
 
 // The byte of step i.
@@ -41,12 +42,12 @@ pub(crate) fn glyph_of(corner: bool, i: usize) -> u8
 {
     if corner {
         if i == 0 {
-            return 78;
+            return Step::NORTH;
         }
         if i == 1 {
-            return 69;
+            return Step::EAST;
         }
-        return 68;
+        return Step::DIAGONAL;
     }
-    (i + 49) as u8
+    (i + Step::FIRST as usize) as u8
 }

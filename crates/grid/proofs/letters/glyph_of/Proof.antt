@@ -18,8 +18,11 @@ add-result c = search needs
 cast-result : tie.Need-cast-result
 cast-result c = search needs
 
+cast-result-2 : tie.Need-cast-result-2
+cast-result-2 c = search needs
+
 returns-4 : tie.Need-returns-4
 returns-4 c = glyph-digit _ _ (c .if1 .left)
 
 pub glyph-of-spec : {M : Type 1} → statement M
-glyph-of-spec = tie.close (tie.spec returns returns-2 returns-3 add-result cast-result returns-4)
+glyph-of-spec = tie.close (tie.spec returns returns-2 returns-3 cast-result add-result cast-result-2 returns-4)

@@ -26,6 +26,9 @@ returns-6 c = place-high _ _ (c .before .before .if1 .left) (c .before .if5 .lef
 wide-requires : tie.Need-wide-requires
 wide-requires c κs = search needs
 
+cast-result : tie.Need-cast-result
+cast-result c = search needs
+
 sub-result : tie.Need-sub-result
 sub-result c = search needs
 
@@ -43,5 +46,6 @@ place-of-spec =
     returns-5
     returns-6
     wide-requires
+    cast-result
     sub-result
     returns-7)
