@@ -345,28 +345,27 @@ static void examples_of_over(void)
     example_count(block, 0, 0);
 }
 
+static const struct {
+    int family, n, m;
+    const char *edge;
+    uint64_t number;
+} edges_of_examples[] = {
+    {1, 3, 3, "NNEEEN", 9},   {1, 0, 0, "", 0},         {1, 3, 3, "EEENNN", 0}, {1, 3, 3, "NNNEEE", 19},
+    {2, 4, 4, "EENENENN", 4}, {2, 4, 4, "ENEEENNN", 5}, {3, 1, 1, "EN", 0},     {3, 1, 1, "NE", 1},
+    {3, 1, 1, "D", 2},        {4, 3, 3, "DEDN", 12},    {4, 3, 3, "DEENN", 14}, {5, 3, 3, "DDD", 0},
+    {5, 3, 3, "END", 1},      {5, 3, 3, "EDN", 2},      {5, 3, 3, "DEN", 3},    {6, 3, 1, "133", 5},
+    {6, 3, 1, "331", 0},      {6, 3, 1, "322", 1},
+};
+
 static void examples(void)
 {
-    example_edge(lettered_block(1, 3, 3), "NNEEEN", 9);
-    example_edge(lettered_block(1, 0, 0), "", 0);
+    for (size_t i = 0; i < sizeof edges_of_examples / sizeof edges_of_examples[0]; i++) {
+        int family = edges_of_examples[i].family, n = edges_of_examples[i].n, m = edges_of_examples[i].m;
+        Block block = family <= 5 ? lettered_block(family, n, m) : block_with_T(family, n, m);
+        example_edge(block, edges_of_examples[i].edge, edges_of_examples[i].number);
+    }
     example_count(lettered_block(1, 0, 0), 0, 1);
-    example_edge(lettered_block(1, 3, 3), "EEENNN", 0);
-    example_edge(lettered_block(1, 3, 3), "NNNEEE", 19);
-    example_edge(lettered_block(2, 4, 4), "EENENENN", 4);
-    example_edge(lettered_block(2, 4, 4), "ENEEENNN", 5);
-    example_edge(lettered_block(3, 1, 1), "EN", 0);
-    example_edge(lettered_block(3, 1, 1), "NE", 1);
-    example_edge(lettered_block(3, 1, 1), "D", 2);
-    example_edge(lettered_block(4, 3, 3), "DEDN", 12);
-    example_edge(lettered_block(4, 3, 3), "DEENN", 14);
-    example_edge(lettered_block(5, 3, 3), "DDD", 0);
-    example_edge(lettered_block(5, 3, 3), "END", 1);
-    example_edge(lettered_block(5, 3, 3), "EDN", 2);
-    example_edge(lettered_block(5, 3, 3), "DEN", 3);
     example_count(lettered_block(5, 3, 3), 0, 4);
-    example_edge(block_with_T(6, 3, 1), "133", 5);
-    example_edge(block_with_T(6, 3, 1), "331", 0);
-    example_edge(block_with_T(6, 3, 1), "322", 1);
     example_count(block_with_T(6, 3, 1), 0, 6);
     example_count(block_with_T(7, 3, 1), 0, 5);
     example_no_edge(block_with_T(7, 3, 1), "133");

@@ -6,18 +6,15 @@
 --   count-refused, count-fits    the count's answer
 --   number-refused, number-fits  the number's
 --   build-refused, build-fits    the edge's
---   beyond-built, short-built, room-built    an edge of n, written: refusal 6, refusal 7, and neither
---   copied-next                  one byte more is copied
+--   beyond-built, put-built      an edge of n, written: refusal 6, and the edge put to the output
 use mathlib.Core.Path.{_≡_, refl, sym, ap, ap₂, _∙_, subst}
 use mathlib.Core.Bool.{Bool, true, false}
-use mathlib.Core.List.{List, _++_}
-use Prim.Native.Nat.{ℕ, _+_, _≤_, _<_}
-use native.Mathlib.Omega.{arith}
-use native.Mathlib.Numerals.{add-one}
+use mathlib.Core.List.{List}
+use Prim.Native.Nat.{ℕ, _≤_, _<_}
 use lib.Dec.{ltb}
-use lib.ListN.{length, take, drop, getD, set}
-use lib.Seq.{take-at, take-suc, length-take-le}
-use borrow.Author.Tests.{le-leb, lt-leb, lt-ltb, le-ltb}
+use lib.ListN.{take, drop}
+use lib.Seq.{take-at}
+use borrow.Author.Tests.{lt-ltb, le-ltb}
 use Rattle.howmany.specs.Choose.{pick}
 use Rattle.howmany.proofs.Choices.{is-true, is-false}
 use Rattle.arches.specs.Counts.{count}
@@ -38,11 +35,10 @@ use Rattle.rules.proofs.ArchPaths.{Arched, valid-walk, walk-valid, dyck-arched,
 use Rattle.job.specs.Replies.{reply}
 use Rattle.job.specs.Replies.Reply.{value, refusal}
 use Rattle.job.specs.declared.Built.{Built}
-use Rattle.job.specs.declared.Built.the-variants.{Length, Refused}
+use Rattle.job.specs.declared.Built.the-variants.{Refused}
 use Rattle.arch.specs.Answers.{Numbered, Written}
 use Rattle.arch.specs.Calls.{forArch, forArchWritten, RefusedAs, Fits, answerSays, edgeWritten}
 use Rattle.job.specs.Replies.{BuiltAs}
-use Rattle.arch.proofs.Writing.{put-byte}
 
 pub record Sort (family : ℕ → Job) (d : Bool) (v : ℕ) : Type 0 where
   pub arched : Arched family d v
@@ -69,21 +65,11 @@ module _ (d : Bool) (v n r : ℕ) (out : List ℕ) where
   unfolding written refusalNumber
   beyond-built l = rw (le-ltb r (count d v n) l) (record { says = refl; output = refl })
 
-  module _ (l : r < count d v n) (old new : List ℕ) (k : ℕ) (w : Written d v n r old new k) where
-    pub short-built : length out < k → BuiltAs (edgeWritten d v n r out) (Refused 7) out
-    unfolding written refusalNumber
-    short-built s = rw (lt-ltb r (count d v n) l, w .long, lt-leb k (length out) s) (record { says = refl; output = refl })
-
-    pub room-built : k ≤ length out → (after : List ℕ) → after ≡ take k new ++ drop k out → BuiltAs (edgeWritten d v n r out) (Length k) after
-    unfolding written
-    room-built s after e =
-        let front : take k new ≡ print d v (build d v n n r) = ap (take k) (w .shown) ∙ take-at (print d v (build d v n n r)) (drop k old) k (w .long) in
-        rw (lt-ltb r (count d v n) l, w .long, le-leb k (length out) s) (record { says = refl; output = rw front at e })
-
-pub copied-next : (s out old : List ℕ) (i : ℕ) → out ≡ take i s ++ drop i old → i < length s → i < length old → set out i (getD s i 0) ≡ take (i + 1) s ++ drop (i + 1) old
-copied-next s out old i e h g =
-    ap (λ (z : List ℕ). set z i (getD s i 0)) e ∙ put-byte (take i s) old i (getD s i 0) (length-take-le i s (omega arith)) g
-    ∙ ap (λ (z : List ℕ). z ++ drop (i + 1) old) (sym (take-suc s i 0 h) ∙ ap (λ (z : ℕ). take z s) (sym (add-one i)))
+  pub put-built : r < count d v n → (old new : List ℕ) (k : ℕ) → Written d v n r old new k → (x : Built) (after : List ℕ)
+      → BuiltAs (written (accepted (take k new)) out) x after → BuiltAs (edgeWritten d v n r out) x after
+  put-built l old new k w x after h =
+      let front : take k new ≡ print d v (build d v n n r) = ap (take k) (w .shown) ∙ take-at (print d v (build d v n n r)) (drop k old) k (w .long) in
+      rw (lt-ltb r (count d v n) l, sym front) h
 
 -- ---- the answers on a block
 

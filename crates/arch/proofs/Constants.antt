@@ -8,11 +8,12 @@ use mathlib.Core.Path.{_≡_, refl, ap, _∙_, sym}
 use mathlib.Core.Bool.{Bool, true}
 use mathlib.Core.List.{List, [], _∷_}
 use Prim.Native.Nat.{ℕ, zero, suc, _+_, _-_, _^_, _≤_, _<_}
-use native.Mathlib.Nat.{not-suc-le-zero, sub-zero, suc-sub-suc, le-of-suc-le-suc, le-refl}
+use native.Mathlib.Nat.{le-refl}
 use native.Mathlib.Decide.{ℕ-discrete}
 use native.Mathlib.Omega.{arith}
 use lib.ListN.{length, getD}
 use Rattle.arches.specs.Counts.{count, counts}
+use Rattle.arches.proofs.Counting.{counts-at}
 use Rattle.arches.proofs.Limits.{Family, schroder-limit, motzkin-limit}
 use Rattle.arch.specs.Table.{Table}
 
@@ -47,12 +48,6 @@ turned-at (x ∷ xs) acc k h = go (λ l. turned-at xs (x ∷ acc) k l) (ℕ-disc
         ih (omega arith) ∙ ap (λ (z : ℕ). getD (x ∷ xs) z 0) (sym b)
 
 module _ (d : Bool) (v : ℕ) where
-  counts-at : (n k : ℕ) → k ≤ n → getD (counts d v n) k 0 ≡ count d v (n - k)
-  unfolding counts count
-  counts-at n zero h = rw sub-zero
-  counts-at zero (suc k) h = absurd (not-suc-le-zero h)
-  counts-at (suc n) (suc k) h = rw suc-sub-suc (counts-at n k (le-of-suc-le-suc h))
-
   length-counts : (n : ℕ) → length (counts d v n) ≡ suc n
   unfolding counts
   length-counts zero = refl
@@ -66,7 +61,7 @@ module _ (d : Bool) (v : ℕ) where
   upwards-at n k h =
       let e : length (counts d v n) - 1 - k ≡ n - k = omega (arith, length-counts n) in
       let g : n - (n - k) ≡ k = omega arith in
-      turned-at (counts d v n) [] k (omega (arith, length-counts n)) ∙ ap (λ (z : ℕ). getD (counts d v n) z 0) e ∙ counts-at n (n - k) (omega arith) ∙ ap (count d v) g
+      turned-at (counts d v n) [] k (omega (arith, length-counts n)) ∙ ap (λ (z : ℕ). getD (counts d v n) z 0) e ∙ counts-at d v n (n - k) (omega arith) ∙ ap (count d v) g
 
   length-upwards : (n : ℕ) → length (upwards n) ≡ suc n
   unfolding upwards

@@ -3,7 +3,6 @@
 --
 --   tail-part, tail-length, part-byte         the part of s that a reader is handed
 --   edge-is, sized-by                         what a tree prints is an edge, and its size is where the walk ends
---   is-yes, is-no                             the code's test `!ok`
 --   path-good, path-bad, arch-good, arch-bad  what was got, by that test
 --   Sofar                                     what the loop of the path reader knows
 --   sofar-start, with-dee, with-arch          at its start, and after a `D` or an arch
@@ -24,6 +23,7 @@ use native.Mathlib.Omega.{arith}
 use lib.Dec.{T}
 use lib.ListN.{getD, length, take, drop, length-drop, drop-of-length-le}
 use lib.Seq.{take-all, drop-cons, drop-drop, getD-drop}
+use borrow.Author.Tests.{not-true, not-false}
 use Rattle.arches.specs.Counts.{count}
 use Rattle.arches.specs.Trees.{Tree, Letter, letterOf, size, number, print, treeOf}
 use Rattle.arches.specs.Trees.Tree.{empty, dee, arch}
@@ -101,32 +101,24 @@ none-left d v (b ∷ s) x n st w = absurd (go (letterOf b) st w)
     go other t z = z
 
 -- ---- the code tests `!ok`
-pub is-yes : (b : Bool) → not b ≡ false → b ≡ true
-is-yes true e = refl
-is-yes false e = absurd (subst (λ (b : Bool). T b) e tt)
-
-pub is-no : (b : Bool) → not b ≡ true → b ≡ false
-is-no true e = sym e
-is-no false e = refl
-
 module _ (d : Bool) (v n x : ℕ) (s : List ℕ) (b : Bool) (next sz r : ℕ) where
   pub path-good : not b ≡ false → PathGot b d v n x s next sz r → PathOk d v n x s next sz r
-  path-good e g = subst (λ (b : Bool). PathGot b d v n x s next sz r) (is-yes b e) g
+  path-good e g = subst (λ (b : Bool). PathGot b d v n x s next sz r) (not-false b e) g
 
   pub path-bad : not b ≡ true → PathGot b d v n x s next sz r → NoWay d v n x s
-  path-bad e g = subst (λ (b : Bool). PathGot b d v n x s next sz r) (is-no b e) g
+  path-bad e g = subst (λ (b : Bool). PathGot b d v n x s next sz r) (not-true b e) g
 
   pub arch-good : not b ≡ false → ArchGot b d v n x s next sz r → ArchOk d v n x s next sz r
-  arch-good e g = subst (λ (b : Bool). ArchGot b d v n x s next sz r) (is-yes b e) g
+  arch-good e g = subst (λ (b : Bool). ArchGot b d v n x s next sz r) (not-false b e) g
 
   pub arch-bad : not b ≡ true → ArchGot b d v n x s next sz r → NoWay d v n x s
-  arch-bad e g = subst (λ (b : Bool). ArchGot b d v n x s next sz r) (is-no b e) g
+  arch-bad e g = subst (λ (b : Bool). ArchGot b d v n x s next sz r) (not-true b e) g
 
 d-some : (d : Bool) → not d ≡ false → T d
-d-some d e = subst (λ (b : Bool). T b) (sym (is-yes d e)) tt
+d-some d e = subst (λ (b : Bool). T b) (sym (not-false d e)) tt
 
 d-none : (d : Bool) → not d ≡ true → T d → ⊥
-d-none d e t = subst (λ (b : Bool). T b) (is-no d e) t
+d-none d e t = subst (λ (b : Bool). T b) (not-true d e) t
 
 -- what the loop knows
 pub record Sofar (d : Bool) (v n x : ℕ) (s : List ℕ) (next sz r : ℕ) : Type 0 where

@@ -18,6 +18,7 @@ use native.Mathlib.Nat.{le-refl, sub-zero}
 use native.Mathlib.Omega.{arith}
 use lib.ListN.{getD, length, take}
 use lib.Seq.{take-all, take-suc, take-take, length-take-le, getD-take}
+use borrow.Author.Tests.{not-true, not-false}
 use Rattle.arches.specs.Counts.{count}
 use Rattle.arches.specs.Trees.{Tree, Letter, letterOf, size, number, print}
 use Rattle.arches.specs.Trees.Tree.{empty, dee, arch}
@@ -29,7 +30,7 @@ use Rattle.arch.specs.Table.{Table}
 use Rattle.arch.specs.Sums.{offset}
 use Rattle.arch.specs.Answers.{IsEdge}
 use Rattle.arch.specs.ReadingBack.{Go, NoNorth, NoFront, Ok, Got}
-use Rattle.arch.proofs.Reading.{is-yes, is-no, edge-is, sized-by}
+use Rattle.arch.proofs.Reading.{edge-is, sized-by}
 
 go-to : (x y : ℕ) {a b : ℕ} (s : List ℕ) (X Y : ℕ) → a ≡ x → b ≡ y → Go a b s X Y → Go x y s X Y
 go-to x y s X Y e h w = subst₂ (λ (x′ y′ : ℕ). Go x′ y′ s X Y) e h w
@@ -110,10 +111,10 @@ go-no c x y X Y n e w = step (letterOf c) (known c) w
 
 -- ---- the code tests `!ok`
 pub got-good : (b : Bool) (room : ℕ) (s : List ℕ) (at sz r : ℕ) → not b ≡ false → Got b room s at sz r → Ok room s at sz r
-got-good b room s at sz r e g = subst (λ (b : Bool). Got b room s at sz r) (is-yes b e) g
+got-good b room s at sz r e g = subst (λ (b : Bool). Got b room s at sz r) (not-false b e) g
 
 pub got-bad : (b : Bool) (room : ℕ) (s : List ℕ) (at sz r : ℕ) → not b ≡ true → Got b room s at sz r → NoFront room s
-got-bad b room s at sz r e g = subst (λ (b : Bool). Got b room s at sz r) (is-no b e) g
+got-bad b room s at sz r e g = subst (λ (b : Bool). Got b room s at sz r) (not-true b e) g
 
 -- of the part `&s[0..l]`
 pub part-good : (b : Bool) (room : ℕ) (s : List ℕ) (l at sz r : ℕ) → not b ≡ false → Got b room (take (l - 0) s) at sz r → Ok room (take l s) at sz r

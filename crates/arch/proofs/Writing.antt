@@ -3,7 +3,6 @@
 --
 --   wide, with-d                               the last step: an arch, which is not too wide, or `D`
 --   spot-pos, spot-rem, spot-quot              the two parts' numbers, from what is left where the number falls
---   put-byte                                   one byte more is stored behind what is written
 --   written-none, written-dee, written-arch    an empty path, one that ends in `D`, one that ends in an arch
 --   written-length                             as many bytes as there were
 --   first-room, first-length, part-room        the bytes that are left for an arch's second part
@@ -17,13 +16,14 @@ use native.Mathlib.Decide.{decLe}
 use native.Mathlib.Omega.{arith}
 use lib.Dec.{T}
 use lib.ListN.{getD, length, take, drop, set, length-append, length-set, length-drop, drop-of-length-le}
-use lib.Seq.{drop-cons, set-at, take-at, drop-at, append-snoc, drop-drop}
+use lib.Seq.{take-at, drop-at, append-snoc, drop-drop}
 use borrow.Rule.Slice.PartMut.{putMid}
 use Rattle.arches.specs.Counts.{ifD, count}
 use Rattle.arches.specs.Trees.{Tree, size, number, build, print}
 use Rattle.arches.specs.Trees.Tree.{empty, dee, arch}
 use Rattle.arches.proofs.Counting.{ifD-pos, count-short}
 use Rattle.arches.proofs.Ranking.{pos-of-product, number-arch, number-one, build-built}
+use Rattle.job.proofs.Puts.{put-byte}
 use Rattle.arch.specs.Sums.{Falls}
 use Rattle.arch.specs.Answers.{Written}
 use Rattle.arch.proofs.Reading.{tail-part}
@@ -92,12 +92,6 @@ module _ {d : Bool} {v m r i rest c : ℕ} (f : Falls d v m r i rest) (ec : c �
   spot-quot = div-lt-iff-lt-mul spot-pos .1 (rw (ec, mul-comm) (f .fits))
 
 -- ---- the bytes
-pub put-byte : (P L : List ℕ) (k b : ℕ) → length P ≡ k → k < length L → set (P ++ drop k L) k b ≡ (P ++ (b ∷ [])) ++ drop (k + 1) L
-put-byte P L k b l h =
-    let s : suc k ≡ k + 1 = omega arith in
-    ap (λ (z : List ℕ). set (P ++ z) k b) (drop-cons L k 0 h) ∙ set-at P (getD L k 0) (drop (suc k) L) b k l
-    ∙ sym (append-snoc P b (drop (suc k) L)) ∙ ap (λ (z : ℕ). (P ++ (b ∷ [])) ++ drop z L) s
-
 one-more : (P : List ℕ) (b k : ℕ) → length P ≡ k → length (P ++ (b ∷ [])) ≡ k + 1
 one-more P b k h = omega (arith, length-append P (b ∷ []))
 

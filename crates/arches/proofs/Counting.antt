@@ -1,6 +1,7 @@
 -- The laws of the counts: the one recurrence, by reading the list of counts. Assumes nothing.
 --
 --   ifD-yes, ifD-pos            what `ifD` is
+--   counts-at                   what the list of counts has at a place
 --   count-zero, count-suc       the recurrence
 --   count-arch, count-short     the same where an arch fits, and where none does
 --   before-suc, before-mono     the products, one more of them or several
@@ -25,7 +26,7 @@ ifD-pos true r c h = (tt, h)
 ifD-pos false r c h = absurd (not-suc-le-zero h)
 
 module _ (d : Bool) (v : ℕ) where
-  counts-at : (n k : ℕ) → k ≤ n → getD (counts d v n) k 0 ≡ count d v (n - k)
+  pub counts-at : (n k : ℕ) → k ≤ n → getD (counts d v n) k 0 ≡ count d v (n - k)
   unfolding counts count
   counts-at n zero h = rw sub-zero
   counts-at zero (suc k) h = absurd (not-suc-le-zero h)

@@ -12,6 +12,7 @@ use Rattle.rules.specs.Answers.{Written}
 use Rattle.job.specs.Replies.{Reply, reply}
 use Rattle.job.specs.Replies.Reply.{value, refusal}
 
+-- "A refusal returns its number alone and writes nothing"
 abbrev pub code : Reply → ℕ
 code (value v) = 0
 code (refusal r) = r
@@ -24,6 +25,7 @@ pub record Seen (a : Answer ℕ) (r before after : ℕ) : Type 0 where
   pub result : r ≡ code (reply a)
   pub number : after ≡ shown (reply a) before
 
+-- "An accepted write fills the front of the output, reports its length and touches nothing behind it."
 pub record SeenWrite (w : Written) (r before after : ℕ) (output : List ℕ) : Type 0 where
   pub seen : Seen (w .answer) r before after
   pub bytes : output ≡ w .output

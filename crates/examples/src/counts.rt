@@ -21,20 +21,25 @@ fn both(block: &[u8]) {
     say::width(block);
 }
 
-pub(crate) fn run() {
-    say::text(b"counts and widths\n");
+fn lettered() {
     both(&corner(1, 33, 34));
     both(&corner(1, 34, 34));
     both(&corner(1, 65, 0));
     both(&corner(1, 0, 0));
     both(&corner(1, 1, 1));
     both(&corner(1, 3, 3));
+}
+
+fn squares() {
     both(&corner(2, 36, 36));
     both(&corner(2, 37, 37));
     both(&corner(4, 28, 28));
     both(&corner(4, 29, 29));
     both(&corner(5, 45, 45));
     both(&corner(5, 46, 46));
+}
+
+fn directed() {
     both(&with_t(6, 3, 1));
     both(&with_t(7, 3, 1));
     both(&with_t(7, 2, 255));
@@ -43,4 +48,11 @@ pub(crate) fn run() {
     both(&block(6, 32, 1, 1, FLAT));
     both(&block(7, 32, 16, 2, RISE));
     both(&block(6, 32, 1, 8, EIGHT));
+}
+
+pub(crate) fn run() {
+    say::text(b"counts and widths\n");
+    lettered();
+    squares();
+    directed();
 }

@@ -50,6 +50,9 @@ fn steps() {
     say::count(&block(6, 3, 0, 8, FULL));
     say::count(&block(6, 3, 0, 9, FULL));
     say::count(&block(6, 3, 0, 255, FULL));
+}
+
+fn pairs() {
     say::text(b"a = 0, 1, 3, 4\n");
     say::count(&block(6, 3, 0, 2, pair(0, 1)));
     say::count(&block(6, 3, 0, 2, pair(1, 1)));
@@ -60,17 +63,23 @@ fn steps() {
     say::count(&block(6, 3, 0, 2, pair(1, 253)));
     say::count(&block(6, 3, 0, 2, pair(1, 3)));
     say::count(&block(6, 3, 0, 2, pair(1, 4)));
+}
+
+fn twins() {
     say::text(b"twins; twins out of range\n");
     say::count(&block(6, 3, 0, 2, pair(1, 0)));
     say::count(&block(6, 33, 0, 2, pair(1, 0)));
 }
 
-fn ends() {
+fn squares() {
     say::text(b"m beside n\n");
     say::count(&corner(2, 3, 3));
     say::count(&corner(2, 3, 4));
     say::count(&corner(4, 4, 3));
     say::count(&corner(5, 0, 1));
+}
+
+fn ends() {
     say::text(b"n or m = 64, 65, -1\n");
     say::count(&corner(1, 64, 0));
     say::count(&corner(1, 0, 64));
@@ -90,5 +99,8 @@ pub(crate) fn run() {
     families();
     unused();
     steps();
+    pairs();
+    twins();
+    squares();
     ends();
 }

@@ -139,10 +139,6 @@ pub said : {k f : ℕ} {sa sc off val ov : List ℕ} {x y p : ℕ} → Parts k f
     → r ≡ capOf (via k f sa sc x y i)
 said {val = val} {ov = ov} pa i l es er = er ∙ ap (cellAt val ov) es ∙ pa .says i l
 
-pub not-false : (b : Bool) → not b ≡ false → b ≡ true
-not-false true e = refl
-not-false false e = sym e
-
 -- turn and rest
 
 pub zeros : (n j : ℕ) → _≡_ {A = ℕ} (getD (replicate n 0) j 0) 0

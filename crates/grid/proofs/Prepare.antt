@@ -1,6 +1,5 @@
 -- What is found out of a form. Assumes nothing.
 --
---   below-eight                                 what holds at 0 to 7 holds below 8
 --   slope-by                                    a slope where a is known
 --   steepest-none, steepest-more, steepest-at   the loop of `steepest`
 --   deepest-none, deepest-more, deepest-at      the loop of `deepest`
@@ -19,21 +18,11 @@ use native.Mathlib.Nat.{not-suc-le-zero, mul-le-mul-right, mul-le-mul-left, le-t
 use borrow.Author.Count.{below-more}
 use lib.ListN.{length, getD, set}
 use lib.Seq.{getD-set-same, getD-set-other}
+use Rattle.howmany.proofs.Cases.{eight}
 use Rattle.grid.specs.Form.{Form}
 use Rattle.grid.specs.Cells.{strideOf}
 use Rattle.grid.specs.Table.{Steepest, Deepest, Few, Offsets, Prepared}
 use Rattle.grid.proofs.Laws.{mul-bound}
-
-pub below-eight : (P : ℕ → Type 0) → P 0 → P 1 → P 2 → P 3 → P 4 → P 5 → P 6 → P 7 → (i : ℕ) → i < 8 → P i
-below-eight P a b c d e f g h zero l = a
-below-eight P a b c d e f g h (suc zero) l = b
-below-eight P a b c d e f g h (suc (suc zero)) l = c
-below-eight P a b c d e f g h (suc (suc (suc zero))) l = d
-below-eight P a b c d e f g h (suc (suc (suc (suc zero)))) l = e
-below-eight P a b c d e f g h (suc (suc (suc (suc (suc zero))))) l = f
-below-eight P a b c d e f g h (suc (suc (suc (suc (suc (suc zero)))))) l = g
-below-eight P a b c d e f g h (suc (suc (suc (suc (suc (suc (suc zero))))))) l = h
-below-eight P a b c d e f g h (suc (suc (suc (suc (suc (suc (suc (suc i)))))))) l = absurd (omega arith)
 
 pub slope-by : (a b c r : ℕ) → a ≡ b → 6 * c ≤ r * b → 6 * c ≤ r * a
 slope-by a b c r e h = rw e h
@@ -71,7 +60,7 @@ pub few-not : (sa : List ℕ) (ex : ℕ) → Few false sa ex
 few-not sa ex = record { gone = λ e i p q. let z : _≡_ {A = ℕ} 0 1 = cc in absurd (omega arith) }
 
 pub few-yes : (sa : List ℕ) (ex : ℕ) → ex < getD sa 4 0 → ex < getD sa 5 0 → ex < getD sa 6 0 → ex < getD sa 7 0 → Few true sa ex
-few-yes sa ex a b c d = record { gone = λ e i p q. below-eight (λ j. 4 ≤ j → ex < getD sa j 0) (λ h. absurd (omega arith)) (λ h. absurd (omega arith)) (λ h. absurd (omega arith)) (λ h. absurd (omega arith)) (λ h. a) (λ h. b) (λ h. c) (λ h. d) i q p }
+few-yes sa ex a b c d = record { gone = λ e i p q. eight (λ j. 4 ≤ j → ex < getD sa j 0) (λ h. absurd (omega arith)) (λ h. absurd (omega arith)) (λ h. absurd (omega arith)) (λ h. absurd (omega arith)) (λ h. a) (λ h. b) (λ h. c) (λ h. d) i q p }
 
 module _ {k f : ℕ} {sa sc : List ℕ} {top ex ey : ℕ} (fo : Form k f sa sc top ex ey) where
   pub form-pos : (i : ℕ) → i < 8 → 1 ≤ getD sa i 0

@@ -20,6 +20,7 @@ use lib.Seq.{getD-set-same, getD-set-other}
 use borrow.Author.Tests.{lt-ltb, le-ltb, ltb-true, ltb-false}
 use Rattle.howmany.specs.Choose.{pick, bit}
 use Rattle.howmany.proofs.Choices.{and-left, and-right}
+use Rattle.howmany.proofs.Cases.{two, three, eight}
 use Rattle.backward.specs.Grid.{Spot}
 use Rattle.rules.specs.Points.{leℤ, height}
 use Rattle.rules.specs.Jobs as rules
@@ -40,17 +41,6 @@ use Rattle.grid.specs.Shapes.Shaped.{worked, over, nothing}
 use Rattle.grid.specs.declared.shape.Shape.{Shape}
 
 -- ---- the steps of families 6 and 7
-
-eight : (P : ℕ → Type 0) → P 0 → P 1 → P 2 → P 3 → P 4 → P 5 → P 6 → P 7 → (i : ℕ) → i < 8 → P i
-eight P a b c d e f g h zero l = a
-eight P a b c d e f g h (suc zero) l = b
-eight P a b c d e f g h (suc (suc zero)) l = c
-eight P a b c d e f g h (suc (suc (suc zero))) l = d
-eight P a b c d e f g h (suc (suc (suc (suc zero)))) l = e
-eight P a b c d e f g h (suc (suc (suc (suc (suc zero))))) l = f
-eight P a b c d e f g h (suc (suc (suc (suc (suc (suc zero)))))) l = g
-eight P a b c d e f g h (suc (suc (suc (suc (suc (suc (suc zero))))))) l = h
-eight P a b c d e f g h (suc (suc (suc (suc (suc (suc (suc (suc i)))))))) l = absurd (omega arith)
 
 pub laid-start : (a b : List ℕ) → Laying a b (replicate 8 100) (replicate 8 0) 0
 laid-start a b = record {
@@ -80,17 +70,6 @@ module _ (a b sa sc : List ℕ) (i x y : ℕ) (w : Laying a b sa sc i) (l : i < 
       at-up : (j : ℕ) → j < i + 1 → Dec (j ≡ i) → getD (set sc i y) j 0 ≡ getD b j 0 + 3 * getD a j 0 - 128
       at-up j h (yes e) = rw e (getD-set-same sc i y 0 (omega (arith, w .eight-too)) ∙ ey)
       at-up j h (no f) = getD-set-other sc i j y 0 f ∙ w .up j (omega arith)
-
-two : (P : ℕ → Type 0) → P 0 → P 1 → (i : ℕ) → i < 2 → P i
-two P a b zero l = a
-two P a b (suc zero) l = b
-two P a b (suc (suc i)) l = absurd (omega arith)
-
-three : (P : ℕ → Type 0) → P 0 → P 1 → P 2 → (i : ℕ) → i < 3 → P i
-three P a b c zero l = a
-three P a b c (suc zero) l = b
-three P a b c (suc (suc zero)) l = c
-three P a b c (suc (suc (suc i))) l = absurd (omega arith)
 
 -- ---- families 1 and 3
 

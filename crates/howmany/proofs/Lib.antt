@@ -2,3 +2,4 @@ pub mod Choices
 pub mod Sums
 pub mod Counts
 pub mod Numberings
+pub mod Cases

@@ -16,6 +16,7 @@ use lib.Seq.{getD-drop}
 use borrow.Author.Tests.{le-leb, lt-leb, eqb-true, eqb-false}
 use Rattle.howmany.specs.Choose.{pick}
 use Rattle.howmany.proofs.Choices.{and-left, and-right, is-true, is-false}
+use Rattle.howmany.proofs.Cases.{eight}
 use Rattle.rules.specs.Jobs as rules
 use Rattle.rules.specs.Jobs.{Pair}
 use Rattle.rules.specs.Jobs.Job.{north-east, dyck, delannoy, schroder, motzkin, directed}
@@ -53,17 +54,6 @@ holds : {b : Bool} → b ≡ true → T b
 holds e = subst T (sym e) tt
 
 -- case by case over eight places
-eight : (P : ℕ → Type 0) → P 0 → P 1 → P 2 → P 3 → P 4 → P 5 → P 6 → P 7 → (i : ℕ) → i < 8 → P i
-eight P a b c d e f g h zero l = a
-eight P a b c d e f g h (suc zero) l = b
-eight P a b c d e f g h (suc (suc zero)) l = c
-eight P a b c d e f g h (suc (suc (suc zero))) l = d
-eight P a b c d e f g h (suc (suc (suc (suc zero)))) l = e
-eight P a b c d e f g h (suc (suc (suc (suc (suc zero))))) l = f
-eight P a b c d e f g h (suc (suc (suc (suc (suc (suc zero)))))) l = g
-eight P a b c d e f g h (suc (suc (suc (suc (suc (suc (suc zero))))))) l = h
-eight P a b c d e f g h (suc (suc (suc (suc (suc (suc (suc (suc i)))))))) l = absurd (omega arith)
-
 height-is : (z : ℤ) (p : ℕ) → Is z p 128 → 128 ≤ p → height z + 128 ≡ p
 height-is (pos a) p e l = e
 height-is (negsuc a) p e l = absurd (omega arith)

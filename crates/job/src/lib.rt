@@ -149,7 +149,7 @@ fn is_formed(block: &[u8]) -> bool
     }
     let k = wide(block[3]);
     if 8 <= k {
-        return true;
+        return true; // no pair is unused
     }
     let from = 4 + 2 * k;
     all_zero(&block[from..])
@@ -204,14 +204,7 @@ fn is_sized_corner(block: &[u8]) -> bool
     if Job::LEVEL + Job::FARTHEST < m {
         return false;
     }
-    let family = block[0];
-    if family == 2 {
-        return m == Job::LEVEL + n;
-    }
-    if family == 4 {
-        return m == Job::LEVEL + n;
-    }
-    if family == 5 {
+    if is_square(block) {
         return m == Job::LEVEL + n;
     }
     true

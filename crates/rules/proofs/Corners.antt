@@ -19,6 +19,7 @@ use lib.ListN.{length, getD}
 use Rattle.howmany.specs.Choose.{pick, bit}
 use Rattle.howmany.specs.Sum.{sum}
 use Rattle.howmany.proofs.Choices.{is-true, is-false}
+use Rattle.howmany.proofs.Cases.{two, three}
 use Rattle.howmany.proofs.Sums.{sum-cong, sum-none}
 use Rattle.backward.specs.Grid.{Spot, Steps, on, off, inside, reach, Onward, paths}
 use Rattle.backward.proofs.Grids.{paths-start, paths-step, reached, reaches, spot-eq}
@@ -142,17 +143,6 @@ corner-shear J G K H own stands free counts = record {
     pos-one e = cc
 
 -- ---- case by case over two or three steps
-
-two : (P : ℕ → Type 0) → P 0 → P 1 → (i : ℕ) → i < 2 → P i
-two P a b zero l = a
-two P a b (suc zero) l = b
-two P a b (suc (suc i)) l = absurd (omega arith)
-
-three : (P : ℕ → Type 0) → P 0 → P 1 → P 2 → (i : ℕ) → i < 3 → P i
-three P a b c zero l = a
-three P a b c (suc zero) l = b
-three P a b c (suc (suc zero)) l = c
-three P a b c (suc (suc (suc i))) l = absurd (omega arith)
 
 -- ---- family 1
 

@@ -1,7 +1,7 @@
 -- `job::is_sized_corner` meets its contract: each return by the tests that led there. Assumes nothing.
 use mathlib.Core.Path.{_≡_, refl, sym, ap, _∙_}
 use native.Mathlib.Omega.{arith}
-use borrow.Author.Tests.{eq-eqb, ne-eqb, le-leb, lt-leb}
+use borrow.Author.Tests.{le-leb, lt-leb}
 use Rattle.job.proofs.Blocks.{corner-is}
 use borrow.Author.Needs.{needs}
 use Rattle.job.proofs.is_sized_corner.Statement.{statement}
@@ -28,29 +28,17 @@ add-if3 c = search needs
 returns-3 : tie.Need-returns-3
 returns-3 c = sym (corner-is (c .before .before .before .before .before .before .before .args .block .now) (c .before .before .before .raise .result) (c .before .before .before .raise .ensures) (omega (arith, c .before .before .before .before .before .before .shared-slice-known .given 2)) ∙ simp (le-leb _ _ (c .before .before .if1 .left), le-leb _ _ (c .before .if2 .left), lt-leb _ _ (c .if3 .taken)))
 
-shared-slice-read-family : tie.Need-shared-slice-read-family
-shared-slice-read-family c = search needs
+is-square-requires : tie.Need-is-square-requires
+is-square-requires c κs = search needs
 
 add-result : tie.Need-add-result
 add-result c = search needs
 
 returns-4 : tie.Need-returns-4
-returns-4 c = sym (corner-is (c .before .before .before .before .before .before .before .before .before .args .block .now) (c .before .before .before .before .before .raise .result) (c .before .before .before .before .before .raise .ensures) (omega (arith, c .before .before .before .before .before .before .before .before .shared-slice-known .given 2)) ∙ simp (le-leb _ _ (c .before .before .before .before .if1 .left), le-leb _ _ (c .before .before .before .if2 .left), le-leb _ _ (c .before .before .if3 .left), eq-eqb _ _ (c .if4 .taken)))
-
-add-result-2 : tie.Need-add-result-2
-add-result-2 c = search needs
+returns-4 c = sym (corner-is (c .before .before .before .before .before .before .before .before .before .args .block .now) (c .before .before .before .before .before .raise .result) (c .before .before .before .before .before .raise .ensures) (omega (arith, c .before .before .before .before .before .before .before .before .shared-slice-known .given 2)) ∙ simp (le-leb _ _ (c .before .before .before .before .if1 .left), le-leb _ _ (c .before .before .before .if2 .left), le-leb _ _ (c .before .before .if3 .left), sym (c .before .is-square .ensures) ∙ c .if4 .taken))
 
 returns-5 : tie.Need-returns-5
-returns-5 c = sym (corner-is (c .before .before .before .before .before .before .before .before .before .before .args .block .now) (c .before .before .before .before .before .before .raise .result) (c .before .before .before .before .before .before .raise .ensures) (omega (arith, c .before .before .before .before .before .before .before .before .before .shared-slice-known .given 2)) ∙ simp (le-leb _ _ (c .before .before .before .before .before .if1 .left), le-leb _ _ (c .before .before .before .before .if2 .left), le-leb _ _ (c .before .before .before .if3 .left), ne-eqb _ _ (c .before .if4 .left), eq-eqb _ _ (c .if5 .taken)))
-
-add-result-3 : tie.Need-add-result-3
-add-result-3 c = search needs
-
-returns-6 : tie.Need-returns-6
-returns-6 c = sym (corner-is (c .before .before .before .before .before .before .before .before .before .before .before .args .block .now) (c .before .before .before .before .before .before .before .raise .result) (c .before .before .before .before .before .before .before .raise .ensures) (omega (arith, c .before .before .before .before .before .before .before .before .before .before .shared-slice-known .given 2)) ∙ simp (le-leb _ _ (c .before .before .before .before .before .before .if1 .left), le-leb _ _ (c .before .before .before .before .before .if2 .left), le-leb _ _ (c .before .before .before .before .if3 .left), ne-eqb _ _ (c .before .before .if4 .left), ne-eqb _ _ (c .before .if5 .left), eq-eqb _ _ (c .if6 .taken)))
-
-returns-7 : tie.Need-returns-7
-returns-7 c = sym (corner-is (c .before .before .before .before .before .before .before .before .before .before .before .args .block .now) (c .before .before .before .before .before .before .before .raise .result) (c .before .before .before .before .before .before .before .raise .ensures) (omega (arith, c .before .before .before .before .before .before .before .before .before .before .shared-slice-known .given 2)) ∙ simp (le-leb _ _ (c .before .before .before .before .before .before .if1 .left), le-leb _ _ (c .before .before .before .before .before .if2 .left), le-leb _ _ (c .before .before .before .before .if3 .left), ne-eqb _ _ (c .before .before .if4 .left), ne-eqb _ _ (c .before .if5 .left), ne-eqb _ _ (c .if6 .left)))
+returns-5 c = sym (corner-is (c .before .before .before .before .before .before .before .before .before .args .block .now) (c .before .before .before .before .before .raise .result) (c .before .before .before .before .before .raise .ensures) (omega (arith, c .before .before .before .before .before .before .before .before .shared-slice-known .given 2)) ∙ simp (le-leb _ _ (c .before .before .before .before .if1 .left), le-leb _ _ (c .before .before .before .if2 .left), le-leb _ _ (c .before .before .if3 .left), sym (c .before .is-square .ensures) ∙ c .if4 .left))
 
 pub is-sized-corner-spec : {M : Type 1} → statement M
 is-sized-corner-spec =
@@ -63,11 +51,7 @@ is-sized-corner-spec =
     returns-2
     add-if3
     returns-3
-    shared-slice-read-family
+    is-square-requires
     add-result
     returns-4
-    add-result-2
-    returns-5
-    add-result-3
-    returns-6
-    returns-7)
+    returns-5)

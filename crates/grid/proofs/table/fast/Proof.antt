@@ -3,7 +3,8 @@ use Prim.Native.Nat.{_+_, _≤_, _-_}
 use native.Mathlib.Omega.{arith}
 use lib.ListN.{length, length-set}
 use Rattle.grid.specs.Table.{Ready, Table, Small}
-use Rattle.grid.proofs.Phases.{ready-len, first-in, begin-table, begin-small, begin-ready, not-false}
+use Rattle.grid.proofs.Phases.{ready-len, first-in, begin-table, begin-small, begin-ready}
+use borrow.Author.Tests.{not-false}
 use Rattle.grid.proofs.table.fast.Statement.{statement}
 use Rattle.grid.proofs.table.fast.Tie as tie
 
