@@ -5,16 +5,11 @@
 --   dyck-sort, schroder-sort, motzkin-sort
 --   count-refused, count-fits    the count's answer
 --   number-refused, number-fits  the number's
---   build-refused, build-fits    the edge's
---   beyond-built, put-built      an edge of n, written: refusal 6, and the edge put to the output
+--   build-refused, build-fits    the edges'
 use mathlib.Core.Path.{_≡_, refl, sym, ap, ap₂, _∙_, subst}
 use mathlib.Core.Bool.{Bool, true, false}
-use mathlib.Core.List.{List}
+use mathlib.Core.List.{List, map}
 use Prim.Native.Nat.{ℕ, _≤_, _<_}
-use lib.Dec.{ltb}
-use lib.ListN.{take, drop}
-use lib.Seq.{take-at}
-use borrow.Author.Tests.{lt-ltb, le-ltb}
 use Rattle.howmany.specs.Choose.{pick}
 use Rattle.howmany.proofs.Choices.{is-true, is-false}
 use Rattle.arches.specs.Counts.{count}
@@ -29,16 +24,17 @@ use Rattle.rules.specs.Refusals.{Answer, refusalNumber, check, andThen}
 use Rattle.rules.specs.Refusals.Refusal.{not-an-edge, beyond, kind}
 use Rattle.rules.specs.Refusals.Answer.{accepted, refused}
 use Rattle.rules.specs.Blocks.{familyOf, square}
-use Rattle.rules.specs.Answers as rules
-use Rattle.rules.specs.Answers.{knownJob, countAnswer, numberAnswer, edgeAnswer, written, buildAnswer}
+use Rattle.rules.specs.Answers.{knownJob, countAnswer, numberAnswer}
+use Rattle.rules.specs.Questions.{allBelow, edgesAnswer}
 use Rattle.rules.proofs.ArchPaths.{Arched, valid-walk, walk-valid, dyck-arched, schroder-arched, motzkin-arched}
 use Rattle.job.specs.Replies.{reply}
 use Rattle.job.specs.Replies.Reply.{value, refusal}
 use Rattle.job.specs.declared.Built.{Built}
 use Rattle.job.specs.declared.Built.the-variants.{Refused}
-use Rattle.arch.specs.Answers.{Numbered, Written}
-use Rattle.arch.specs.Calls.{forArch, forArchWritten, RefusedAs, Fits, answerSays, edgeWritten}
-use Rattle.job.specs.Replies.{BuiltAs}
+use Rattle.arch.specs.Answers.{Numbered}
+use Rattle.arch.specs.Calls.{forArch, RefusedAs, Fits, answerSays, edgesFor}
+use Rattle.lines.specs.Lines.{lined, LinedAs}
+use Rattle.lines.proofs.Lining.{lined-refused}
 
 pub record Sort (family : ℕ → Job) (d : Bool) (v : ℕ) : Type 0 where
   pub arched : Arched family d v
@@ -58,19 +54,6 @@ pub motzkin-sort : Sort motzkin true 1
 unfolding countOf M numberOf edgeOf
 motzkin-sort = record { arched = motzkin-arched; counts = λ n. refl; numbers = λ n s. refl; edges = λ n r. refl }
 
--- ---- an edge that is written
-
-module _ (d : Bool) (v n r : ℕ) (out : List ℕ) where
-  pub beyond-built : count d v n ≤ r → BuiltAs (edgeWritten d v n r out) (Refused 6) out
-  unfolding written refusalNumber
-  beyond-built l = rw (le-ltb r (count d v n) l) (record { says = refl; output = refl })
-
-  pub put-built : r < count d v n → (old new : List ℕ) (k : ℕ) → Written d v n r old new k → (x : Built) (after : List ℕ)
-      → BuiltAs (written (accepted (take k new)) out) x after → BuiltAs (edgeWritten d v n r out) x after
-  put-built l old new k w x after h =
-      let front : take k new ≡ print d v (build d v n n r) = ap (take k) (w .shown) ∙ take-at (print d v (build d v n n r)) (drop k old) k (w .long) in
-      rw (lt-ltb r (count d v n) l, sym front) h
-
 -- ---- the answers on a block
 
 module _ (b : List ℕ) where
@@ -78,14 +61,6 @@ module _ (b : List ℕ) where
   for-then {A} {B} a f = go (square (familyOf b))
     where
       go : (t : Bool) → pick t (andThen a f) (refused kind) ≡ andThen (pick t a (refused kind)) f
-      go true = refl
-      go false = refl
-
-  for-written : (a : Answer (List ℕ)) (out : List ℕ) → forArchWritten b (written a out) out ≡ written (forArch b a) out
-  unfolding written
-  for-written a out = go (square (familyOf b))
-    where
-      go : (t : Bool) → pick t (written a out) (record { answer = refused kind; output = out }) ≡ written (pick t a (refused kind)) out
       go true = refl
       go false = refl
 
@@ -106,11 +81,11 @@ module _ (b : List ℕ) where
   unfolding numberAnswer
   number-refused s k = refused-says k (forArch b (numberAnswer b s)) (then-refused (λ J. check (walks J origin s) not-an-edge (accepted (numberOf J s))) k)
 
-  pub build-refused : {r : ℕ} (q : ℕ) (out : List ℕ) → RefusedAs b r → BuiltAs (forArchWritten b (buildAnswer b q out) out) (Refused r) out
-  unfolding buildAnswer written edgeAnswer
-  build-refused q out k =
-      let e = for-written (edgeAnswer b q) out ∙ ap (λ (a : Answer (List ℕ)). written a out) (then-refused (λ J. check (ltb q (countOf J)) beyond (accepted (edgeOf J q))) k) in
-      rw e (record { says = ap refusal (k .number); output = refl })
+  pub build-refused : {r : ℕ} (ns steps ends : List ℕ) → RefusedAs b r → LinedAs (lined (forArch b (edgesAnswer b ns)) steps ends) (Refused r) steps ends
+  unfolding edgesAnswer
+  build-refused ns steps ends k =
+      lined-refused (forArch b (edgesAnswer b ns)) (k .refusal) _ steps ends
+      (then-refused (λ J. check (allBelow (countOf J) ns) beyond (accepted (map (edgeOf J) ns))) k) (k .number)
 
   module _ {family : ℕ → Job} {d : Bool} {v n most : ℕ} (sort : Sort family d v) (k : Fits b (family n) n most) where
     pub count-fits : (c : ℕ) → c ≡ count d v n → value c ≡ reply (forArch b (countAnswer b))
@@ -125,11 +100,10 @@ module _ (b : List ℕ) where
         go true w = ap (λ (t : Bool). check t not-an-edge (accepted (numberOf (family n) s))) (is-true (walks (family n) origin s) (walk-valid family d v (sort .arched) n s (w .walk))) ∙ ap accepted (sort .numbers n s ∙ sym (w .numbered))
         go false w = ap (λ (t : Bool). check t not-an-edge (accepted (numberOf (family n) s))) (is-false (walks (family n) origin s) (λ t. w (valid-walk family d v (sort .arched) n s t)))
 
-    pub build-fits : (r : ℕ) (out : List ℕ) (a : Built) (after : List ℕ) → BuiltAs (edgeWritten d v n r out) a after → BuiltAs (forArchWritten b (buildAnswer b r out) out) a after
-    unfolding buildAnswer edgeAnswer
-    build-fits r out a after w =
-        let e : forArch b (edgeAnswer b r) ≡ check (ltb r (countOf (family n))) beyond (accepted (edgeOf (family n) r)) =
-        then-fits (λ J. check (ltb r (countOf J)) beyond (accepted (edgeOf J r))) k in
-        let g : forArchWritten b (buildAnswer b r out) out ≡ edgeWritten d v n r out =
-        for-written (edgeAnswer b r) out ∙ ap (λ (a : Answer (List ℕ)). written a out) (e ∙ ap₂ (λ (c : ℕ) (s : List ℕ). check (ltb r c) beyond (accepted s)) (sort .counts n) (sort .edges n r)) in
-        subst (λ (x : rules.Written). BuiltAs x a after) (sym g) w
+    pub build-fits : (ns steps ends : List ℕ) (a : Built) (s t : List ℕ) → LinedAs (lined (edgesFor d v n ns) steps ends) a s t → LinedAs (lined (forArch b (edgesAnswer b ns)) steps ends) a s t
+    unfolding edgesAnswer
+    build-fits ns steps ends a s t w =
+        let e : forArch b (edgesAnswer b ns) ≡ edgesFor d v n ns =
+        then-fits (λ J. check (allBelow (countOf J) ns) beyond (accepted (map (edgeOf J) ns))) k
+        ∙ ap₂ (λ (c : ℕ) (g : ℕ → List ℕ). check (allBelow c ns) beyond (accepted (map g ns))) (sort .counts n) (λ i r. sort .edges n r i) in
+        rw e w

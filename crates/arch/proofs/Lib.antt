@@ -8,3 +8,4 @@ pub mod Writing
 pub mod Memos
 pub mod Knowing
 pub mod Calls
+pub mod Lined

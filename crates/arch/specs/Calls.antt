@@ -1,17 +1,15 @@
 -- What the calls on a block answer, and what each of them knows first.
 --
 --   forArch b a                   document 01's answer a on a block of family 2, 4 or 5; the other families are another crate's, and get 11
---   forArchWritten b w output     the same for a write: refused, nothing is written
 --   RefusedAs b r                 the block is refused with the number r
 --   Fits b J n most               the block's job is J, and its n is no more than the most whose count fits
 --   KnownIs b r                   what r says of the block
 --   answerSays good r             the number r, or refusal 5
---   edgeWritten d v n r output    the edge of n with the number r, written, or refusal 6 or 7
+--   edgesFor d v n ns             the edges of n with the numbers ns, or refusal 6
 use mathlib.Core.Path.{_≡_}
 use mathlib.Core.Bool.{Bool}
-use mathlib.Core.List.{List}
+use mathlib.Core.List.{List, map}
 use Prim.Native.Nat.{ℕ, _≤_}
-use lib.Dec.{ltb}
 use Rattle.howmany.specs.Choose.{pick}
 use Rattle.arches.specs.Counts as arches
 use Rattle.arches.specs.Trees.{print}
@@ -22,16 +20,14 @@ use Rattle.rules.specs.Refusals.{Answer, Refusal, refusalNumber, check}
 use Rattle.rules.specs.Refusals.Refusal.{not-an-edge, beyond, kind}
 use Rattle.rules.specs.Refusals.Answer.{accepted, refused}
 use Rattle.rules.specs.Blocks.{familyOf, square}
-use Rattle.rules.specs.Answers.{knownJob, Written, written}
+use Rattle.rules.specs.Answers.{knownJob}
+use Rattle.rules.specs.Questions.{allBelow}
 use Rattle.job.specs.Replies.{Reply, reply}
 use Rattle.arch.specs.declared.known.Known.{Known}
 use Rattle.arch.specs.declared.known.Known.the-variants.{Dyck, Schroder, Motzkin, Refused}
 
 abbrev pub forArch : {A : Type 0} → List ℕ → Answer A → Answer A
 forArch b a = pick (square (familyOf b)) a (refused kind)
-
-abbrev pub forArchWritten : List ℕ → Written → List ℕ → Written
-forArchWritten b w output = pick (square (familyOf b)) w (record { answer = refused kind; output = output })
 
 pub record RefusedAs (b : List ℕ) (r : ℕ) : Type 0 where
   pub refusal : Refusal
@@ -48,8 +44,12 @@ KnownIs b (Schroder n) = Fits b (schroder n) n 28
 KnownIs b (Motzkin n) = Fits b (motzkin n) n 45
 KnownIs b (Refused r) = RefusedAs b r
 
-abbrev pub answerSays : Bool → ℕ → Reply
+abbrev pub answerSays : Bool → ℕ → Reply ℕ
 answerSays good r = reply (check good not-an-edge (accepted r))
 
-abbrev pub edgeWritten : Bool → ℕ → ℕ → ℕ → List ℕ → Written
-edgeWritten d v n r output = written (check (ltb r (arches.count d v n)) beyond (accepted (print d v (trees.build d v n n r)))) output
+-- the edge of n with the number r
+abbrev pub edgeBy : Bool → ℕ → ℕ → ℕ → List ℕ
+edgeBy d v n r = print d v (trees.build d v n n r)
+
+abbrev pub edgesFor : Bool → ℕ → ℕ → List ℕ → Answer (List (List ℕ))
+edgesFor d v n ns = check (allBelow (arches.count d v n) ns) beyond (accepted (map (edgeBy d v n) ns))

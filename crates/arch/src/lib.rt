@@ -1,9 +1,10 @@
 // Families 2, 4 and 5 over one theory: d says whether the family has `D`, and an arch spans v + 1.
 ghost use mathlib.Core.Path.{_≡_};
-ghost use Rattle.rules.specs.Answers.{countAnswer, numberAnswer, buildAnswer};
+ghost use Rattle.rules.specs.Answers.{countAnswer, numberAnswer};
+ghost use Rattle.rules.specs.Questions.{edgesAnswer};
 ghost use Rattle.job.specs.Replies.{reply, countSays, numberSays};
-ghost use Rattle.arch.specs.Calls.{forArch, forArchWritten, answerSays};
-ghost use Rattle.job.specs.Replies.{BuiltAs};
+ghost use Rattle.lines.specs.Lines.{lines, LinedAs};
+ghost use Rattle.arch.specs.Calls.{forArch, answerSays};
 use crate::edge::Answer;
 use crate::known::Known;
 use job::Built;
@@ -18,7 +19,7 @@ mod forward; // forward.rt: numbers for families 4 and 5, read from the first st
 mod reverse; // reverse.rt: numbers for family 2, read from the last step
 mod builder; // builder.rt: the edge of a number
 mod known; // known.rt: a block's family and n, or its refusal
-mod output; // output.rt: an edge written to a lent output
+mod output; // output.rt: the edges of a list of numbers, written
 
 // "Counts": C, S or M.
 pub fn count(block: &[u8]) -> Counted
@@ -69,22 +70,25 @@ pub fn number(block: &[u8], edge: &[u8]) -> Numbered
     }
 }
 
-// "Order and numbers", families 2, 4, 5: the edge of a number, written to the front of the output.
-pub fn build(block: &[u8], number: u64, out: &mut [u8]) -> Built
-    ensures { λ r. ⌜ BuiltAs (forArchWritten (now (block .entry)) (buildAnswer (now (block .entry)) number (now (out .entry))) (now (out .entry))) r (now (out .exit)) ⌝ }
+// "Order and numbers", families 2, 4, 5: the edges of a list of numbers, one after the other, and where each ends.
+pub fn build_all(block: &[u8], numbers: &[u64], steps: &mut [u8], ends: &mut [usize]) -> Built
+    ensures { λ r. ⌜ LinedAs (lines (forArch (now (block .entry)) (edgesAnswer (now (block .entry)) (now (numbers .entry)))) (now (numbers .entry)) (now (steps .entry)) (now (ends .entry))) r (now (steps .exit)) (now (ends .exit)) ⌝ }
 {
+    if !lines::has_room(numbers.len(), steps.len(), ends.len()) {
+        return Built::Refused(7);
+    }
     match known::known_job(block) {
         Known::Dyck(n) => {
             let table = dyck::dyck_counts(n);
-            output::write_edge(out, &table, false, 0, n, number)
+            output::write_edges(steps, ends, &table, false, 0, n, numbers)
         }
         Known::Schroder(n) => {
             let table = counts::schroder_counts();
-            output::write_edge(out, &table, true, 0, n, number)
+            output::write_edges(steps, ends, &table, true, 0, n, numbers)
         }
         Known::Motzkin(n) => {
             let table = counts::motzkin_counts();
-            output::write_edge(out, &table, true, 1, n, number)
+            output::write_edges(steps, ends, &table, true, 1, n, numbers)
         }
         Known::Refused(r) => Built::Refused(r),
     }

@@ -1,26 +1,34 @@
-// What is written to a lent output: an edge at its front, if there is room.
+// The edges of a list of numbers, written one after the other.
+ghost use lib.ListN.{length};
+ghost use Rattle.lines.specs.Lines.{lined, LinedAs, Room};
 ghost use Rattle.arch.specs.Table.{Table};
-ghost use Rattle.arch.specs.Calls.{edgeWritten};
-ghost use Rattle.job.specs.Replies.{BuiltAs};
+ghost use Rattle.arch.specs.Calls.{edgesFor};
 use crate::builder;
 use job::Built;
 
-// "6 Beyond", then "7 Room": the edge is built apart, so that its own length decides.
-pub(crate) fn write_edge(
-    out: &mut [u8],
+// "6 Beyond", if any number is; else each edge is built where the one before it ends.
+pub(crate) fn write_edges(
+    steps: &mut [u8],
+    ends: &mut [usize],
     table: &[u64],
     d: bool,
     v: usize,
     n: usize,
-    r: u64,
+    numbers: &[u64],
 ) -> Built
-    requires { ⌜ Table d v n (now table) ⌝ }
-    ensures { λ a. ⌜ BuiltAs (edgeWritten d v n r (now (out .entry))) a (now (out .exit)) ⌝ }
+    requires { ⌜ Table d v n (now table) × Room (length (now numbers)) (length (now steps)) (length (now ends)) ⌝ }
+    ensures { λ r. ⌜ LinedAs (lined (edgesFor d v n (now (numbers .entry))) (now (steps .entry)) (now (ends .entry))) r (now (steps .exit)) (now (ends .exit)) ⌝ }
 {
-    if table[n] <= r {
+    if !lines::all_below(numbers, table[n]) {
         return Built::Refused(6);
     }
-    let mut edge: [u8; 128] = [0; 128];
-    let k = builder::build(&mut edge, table, d, v, n, r);
-    job::put(&edge[..k], out)
+    let mut at: usize = 0;
+    let mut i: usize = 0;
+    while i < numbers.len() {
+        let k = builder::build(&mut steps[at..], table, d, v, n, numbers[i]);
+        at += k;
+        ends[i] = at;
+        i += 1;
+    }
+    Built::Length(at)
 }

@@ -1,8 +1,8 @@
 -- The crate of a block's family answers for it. Assumes nothing.
 --
---   of-arch, of-grid              the answer of the crate that has the family; written-arch, written-grid: the same for a write
+--   of-arch, of-grid              the answer of the crate that has the family; lined-arch, lined-grid: the same for edges one after the other
 --   width-value, width-refusal    the width's reply, from the count's
-use mathlib.Core.Path.{_≡_, refl, sym, ap, _∙_, subst}
+use mathlib.Core.Path.{_≡_, refl, sym, ap, _∙_}
 use mathlib.Core.Bool.{Bool, true, false}
 use mathlib.Core.List.{List}
 use Prim.Native.Nat.{ℕ}
@@ -10,13 +10,14 @@ use Rattle.rules.specs.Width.{widthOf}
 use Rattle.rules.specs.Blocks.{familyOf, square}
 use Rattle.rules.specs.Refusals.{Answer, andThen, refusalNumber}
 use Rattle.rules.specs.Refusals.Answer.{accepted, refused}
-use Rattle.rules.specs.Answers.{countAnswer, widthAnswer, Written}
+use Rattle.rules.specs.Answers.{countAnswer, widthAnswer}
 use Rattle.rules.proofs.Answering.{width-of-count}
-use Rattle.job.specs.Replies.{Reply, reply, BuiltAs}
-use Rattle.job.specs.declared.Built.{Built}
+use Rattle.job.specs.Replies.{Reply, reply}
 use Rattle.job.specs.Replies.Reply.{value, refusal}
-use Rattle.arch.specs.Calls.{forArch, forArchWritten}
-use Rattle.grid.specs.Calls.{forGrid, forGridWritten}
+use Rattle.job.specs.declared.Built.{Built}
+use Rattle.lines.specs.Lines.{lines, LinedAs}
+use Rattle.arch.specs.Calls.{forArch}
+use Rattle.grid.specs.Calls.{forGrid}
 
 pub of-arch : {A : Type 0} (b : List ℕ) (a : Answer A) → square (familyOf b) ≡ true → forArch b a ≡ a
 of-arch b a e = rw e refl
@@ -24,14 +25,16 @@ of-arch b a e = rw e refl
 pub of-grid : {A : Type 0} (b : List ℕ) (a : Answer A) → square (familyOf b) ≡ false → forGrid b a ≡ a
 of-grid b a e = rw e refl
 
-pub written-arch : (b output after : List ℕ) (w : Written) (r : Built) → square (familyOf b) ≡ true → BuiltAs (forArchWritten b w output) r after → BuiltAs w r after
-written-arch b output after w r e h = subst (λ (x : Written). BuiltAs x r after) (rw e refl) h
+pub lined-arch : (b : List ℕ) (a : Answer (List (List ℕ))) (ns steps ends : List ℕ) (r : Built) (s t : List ℕ) → square (familyOf b) ≡ true
+    → LinedAs (lines (forArch b a) ns steps ends) r s t → LinedAs (lines a ns steps ends) r s t
+lined-arch b a ns steps ends r s t e w = rw (of-arch b a e) at w
 
-pub written-grid : (b output after : List ℕ) (w : Written) (r : Built) → square (familyOf b) ≡ false → BuiltAs (forGridWritten b w output) r after → BuiltAs w r after
-written-grid b output after w r e h = subst (λ (x : Written). BuiltAs x r after) (rw e refl) h
+pub lined-grid : (b : List ℕ) (a : Answer (List (List ℕ))) (ns steps ends : List ℕ) (r : Built) (s t : List ℕ) → square (familyOf b) ≡ false
+    → LinedAs (lines (forGrid b a) ns steps ends) r s t → LinedAs (lines a ns steps ends) r s t
+lined-grid b a ns steps ends r s t e w = rw (of-grid b a e) at w
 
 -- a reply, its value changed by f
-abbrev pub along : (ℕ → ℕ) → Reply → Reply
+abbrev pub along : (ℕ → ℕ) → Reply ℕ → Reply ℕ
 along f (value v) = value (f v)
 along f (refusal r) = refusal r
 

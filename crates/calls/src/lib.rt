@@ -3,7 +3,9 @@ ghost use mathlib.Core.Path.{_≡_};
 ghost use Prim.Native.Nat.{ℕ};
 ghost use Rattle.rules.specs.Width.{widthOf};
 ghost use Rattle.rules.specs.Answers.{countAnswer, widthAnswer, numberAnswer, buildAnswer};
+ghost use Rattle.rules.specs.Questions.{edgesAnswer};
 ghost use Rattle.job.specs.Replies.{reply, countSays, widthSays, numberSays, BuiltAs};
+ghost use Rattle.lines.specs.Lines.{lines, LinedAs};
 use job::Built;
 use job::Counted;
 use job::Numbered;
@@ -49,12 +51,26 @@ pub fn number(block: &[u8], edge: &[u8]) -> Numbered
     grid::number(block, edge)
 }
 
+// The edges of a list of numbers, one after the other in steps, and where each ends, with the counts worked out once; refusal 7 unless there
+// is room for as many edges of any length.
+pub fn build_all(block: &[u8], numbers: &[u64], steps: &mut [u8], ends: &mut [usize]) -> Built
+    ensures { λ r. ⌜ LinedAs (lines (edgesAnswer (now (block .entry)) (now (numbers .entry))) (now (numbers .entry)) (now (steps .entry)) (now (ends .entry))) r (now (steps .exit)) (now (ends .exit)) ⌝ }
+{
+    if job::is_square(block) {
+        return arch::build_all(block, numbers, steps, ends);
+    }
+    grid::build_all(block, numbers, steps, ends)
+}
+
 // The edge of a number, written to the front of the output.
 pub fn build(block: &[u8], number: u64, out: &mut [u8]) -> Built
     ensures { λ r. ⌜ BuiltAs (buildAnswer (now (block .entry)) number (now (out .entry))) r (now (out .exit)) ⌝ }
 {
-    if job::is_square(block) {
-        return arch::build(block, number, out);
+    let numbers = [number];
+    let mut steps = [0u8; 128];
+    let mut ends = [0usize; 1];
+    match build_all(block, &numbers, &mut steps, &mut ends) {
+        Built::Length(n) => job::put(&steps[..n], out),
+        Built::Refused(r) => Built::Refused(r),
     }
-    grid::build(block, number, out)
 }

@@ -11,8 +11,8 @@ use Rattle.job.specs.declared.Built.{Built}
 use Rattle.job.specs.Replies.{Reply, reply, buildSays, BuiltAs}
 use Rattle.edges.specs.Seen.{code, shown, Seen, SeenWrite}
 
-pub sees : (y : Reply) (a : Answer ℕ) (before : ℕ) → y ≡ reply a → Seen a (code y) before (shown y before)
-sees y a before e = record { result = ap code e; number = ap (λ (x : Reply). shown x before) e }
+pub sees : (y : Reply ℕ) (a : Answer ℕ) (before : ℕ) → y ≡ reply a → Seen a (code y) before (shown y before)
+sees y a before e = record { result = ap code e; number = ap (λ (x : Reply ℕ). shown x before) e }
 
-pub sees-write : (y : Reply) (w : Written) (r : Built) (before : ℕ) (after : List ℕ) → buildSays r ≡ y → BuiltAs w r after → SeenWrite w (code y) before (shown y before) after
+pub sees-write : (y : Reply ℕ) (w : Written) (r : Built) (before : ℕ) (after : List ℕ) → buildSays r ≡ y → BuiltAs w r after → SeenWrite w (code y) before (shown y before) after
 sees-write y w r before after e h = record { seen = sees y (w .answer) before (sym e ∙ h .says); bytes = h .output }

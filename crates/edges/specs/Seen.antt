@@ -13,11 +13,11 @@ use Rattle.job.specs.Replies.{Reply, reply}
 use Rattle.job.specs.Replies.Reply.{value, refusal}
 
 -- "A refusal returns its number alone and writes nothing"
-abbrev pub code : Reply → ℕ
+abbrev pub code : {A : Type 0} → Reply A → ℕ
 code (value v) = 0
 code (refusal r) = r
 
-abbrev pub shown : Reply → ℕ → ℕ
+abbrev pub shown : {A : Type 0} → Reply A → A → A
 shown (value v) before = v
 shown (refusal r) before = before
 

@@ -128,7 +128,7 @@ write-done buf t u s n e = sym (reverse-reverse (drop s buf)) ∙ ap reverse (sy
 -- ---- the loop of `spell`
 
 pub record Writing (corner few : Bool) (k f : ℕ) (sa sc off : List ℕ) (hi m ex ey : ℕ) (val : List ℕ) (r : ℕ) (buf₀ buf : List ℕ) (x y p left s : ℕ) : Type 0 where
-  pub spelling : Spelling few k f sa sc off hi m ex ey val r buf₀
+  pub spelling : Spelling few k f sa sc off hi m ex ey val r
   pub stand : Stand k f sa sc hi m ex ey x y p
   pub less : left < W k f sa sc x y
   pub x-le : x ≤ s
@@ -145,15 +145,15 @@ pub record Written (corner few : Bool) (k f : ℕ) (sa sc off : List ℕ) (hi m 
   pub next : (v : ℕ) → v ≡ glyphOf corner l → Writing corner few k f sa sc off hi m ex ey val r buf₀ (set buf (s - 1) v) (x - getD sa l 0) (y - getD sc l 0) (p - getD off l 0) rest (s - 1)
 
 module _ {corner few : Bool} {k f : ℕ} {sa sc off : List ℕ} {hi m ex ey : ℕ} {val : List ℕ} {r : ℕ} {buf₀ : List ℕ} where
-  pub writing-start : Spelling few k f sa sc off hi m ex ey val r buf₀ → (p : ℕ) → p ≡ place m ey ex ey → Writing corner few k f sa sc off hi m ex ey val r buf₀ buf₀ ex ey p r 128
-  writing-start sp p ep = record {
+  pub writing-start : Spelling few k f sa sc off hi m ex ey val r → length buf₀ ≡ 128 → (p : ℕ) → p ≡ place m ey ex ey → Writing corner few k f sa sc off hi m ex ey val r buf₀ buf₀ ex ey p r 128
+  writing-start sp long p ep = record {
     spelling = sp;
     stand = record { end = omega arith; ends = (omega arith, omega arith); at = ep; fits = sp .fits };
     less = sp .less;
     x-le = omega (arith, sp .ready .sizes .ex-le);
     s-le = omega arith;
-    room = sp .room;
-    so-far = write-start buf₀ _ 128 (sp .room);
+    room = long;
+    so-far = write-start buf₀ _ 128 long;
   }
 
   module _ {buf : List ℕ} {x y p left s : ℕ} (w : Writing corner few k f sa sc off hi m ex ey val r buf₀ buf x y p left s) where

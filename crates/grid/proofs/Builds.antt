@@ -1,18 +1,23 @@
--- The reply to building an edge, for each way over the table. Assumes nothing.
+-- The reply to building edges, for each way over the table. Assumes nothing.
 --
---   build-over, build-none       the count needs more than 64 bits; it is 0
---   build-refused, build-put     the table's refusal; the edge put to the output
+--   front-of                    an edge copied from the end of a buffer
+--   spelling-of                 each number of the list can be spelt; front-next: it is the next of the lines
+--   below-told                  a test of the numbers against the table's count
+--   for-over, for-beyond, for-all    what is answered by the table's count and the numbers
+--   build-over, build-none, build-empty    the count needs more than 64 bits; it is 0, and there are numbers or none
+--   shaped-lined                the table's answer is the job's
 --   build-square, build-told, build-reply    the ways through a block
 use mathlib.Core.Path.{_≡_, refl, sym, ap, _∙_, subst}
 use mathlib.Core.Bool.{Bool, true, false}
-use mathlib.Core.List.{List}
-use Prim.Native.Nat.{ℕ, _-_, _^_, _≤_, _<_}
+use mathlib.Core.List.{List, [], _∷_, _++_, map}
+use Prim.Native.Nat.{ℕ, suc, _+_, _-_, _^_, _≤_, _<_}
+use native.Mathlib.Nat.{not-suc-le-zero}
 use native.Mathlib.Omega.{arith}
-use lib.Dec.{leb, ltb}
-use lib.ListN.{length, take, drop, length-drop}
+use lib.Dec.{leb}
+use lib.ListN.{length, getD, take, drop, set, length-drop}
 use lib.Seq.{take-all}
-use borrow.Author.Tests.{le-leb, lt-leb, lt-ltb, le-ltb}
-use Rattle.howmany.specs.Choose.{pick}
+use borrow.Rule.Slice.PartMut.{putMid}
+use borrow.Author.Tests.{le-leb, lt-leb}
 use Rattle.rules.specs.Jobs as rules
 use Rattle.rules.specs.Counts.{countOf}
 use Rattle.rules.specs.Numbers.{edgeOf}
@@ -20,88 +25,127 @@ use Rattle.rules.specs.Blocks.{familyOf, square, jobAnswer}
 use Rattle.rules.specs.Refusals.{Answer, Refusal, check, refusalNumber}
 use Rattle.rules.specs.Refusals.Refusal.{kind, over, beyond}
 use Rattle.rules.specs.Refusals.Answer.{accepted, refused}
-use Rattle.rules.specs.Answers.{most, edgeAnswer, Written, written, buildAnswer}
+use Rattle.rules.specs.Answers.{most, written}
+use Rattle.rules.specs.Packs.{joined}
+use Rattle.rules.specs.Questions.{allBelow, edgesAnswer}
 use Rattle.rules.proofs.Demand3.{InRange}
-use Rattle.rules.proofs.Answering.{known-told, edge-told, edge-fitted, build-of}
-use Rattle.job.specs.Replies.{Reply, reply, buildSays, BuiltAs}
-use Rattle.job.specs.Replies.Reply.{refusal}
+use Rattle.rules.proofs.Answering.{known-told, edges-told, edges-fitted}
+use Rattle.job.specs.Replies.{BuiltAs}
 use Rattle.job.specs.declared.Built.{Built}
 use Rattle.job.specs.declared.Built.the-variants.{Length, Refused}
 use Rattle.job.proofs.Standing.{Told}
+use Rattle.lines.specs.Lines.{endsFrom, lined, LinedAs}
+use Rattle.lines.proofs.Lining.{Lining, lining-next, lining-all, lined-refused, below-at, below-not}
 use Rattle.grid.specs.Form.{W}
 use Rattle.grid.specs.Edges as edges
+use Rattle.grid.specs.Edges.{Spelling}
 use Rattle.grid.specs.Shapes.{Grids, Shaped}
-use Rattle.grid.specs.Spelling.{SpeltAs}
-use Rattle.grid.specs.Spelling.SpeltAs.{over as is-over, beyond as is-beyond, spelt}
-use Rattle.grid.specs.Calls.{forGridWritten, edgeFor, BuildsAs}
+use Rattle.grid.specs.Spelling.{Front, Spells, edgesBy, edgesFor}
+use Rattle.grid.specs.Calls.{forGrid, edgesOf}
 use Rattle.grid.specs.declared.shape.Shape.{Shape}
 use Rattle.grid.proofs.Grounds.{shape-count}
 use Rattle.grid.proofs.Worded.{shape-spells}
 use Rattle.grid.proofs.Counted.{Working}
 
--- a refused write: its number, and the output as it was
-nothing : (a : Answer (List ℕ)) (x : Refusal) (out : List ℕ) → a ≡ refused x → BuiltAs (written a out) (Refused (refusalNumber x)) out
+-- ---- one edge, and all of them
+
+pub front-of : (e buf old new : List ℕ) (at len : ℕ) (x : Built) → drop at buf ≡ e → at ≤ 128 → length buf ≡ 128 → len ≡ 128 → 128 ≤ length old
+    → BuiltAs (written (accepted (take (len - at) (drop at buf))) old) x new → Front e old new (128 - at)
 unfolding written
-nothing a x out e = rw e (record { says = refl; output = refl })
+front-of e buf old new at len x q a l z h b =
+    let whole : take (len - at) (drop at buf) ≡ e = take-all (len - at) (drop at buf) (omega (arith, length-drop at buf)) ∙ q in
+    let long : 128 - at ≡ length e = omega (arith, length-drop at buf, ap length q) in
+    let c = rw (whole, le-leb (length e) (length old) (omega arith)) at (b .output) in
+    record { shown = c ∙ ap (λ (k : ℕ). e ++ drop k old) (sym long); long = long; short = omega arith }
 
-numbered : (a : Answer (List ℕ)) (x : Refusal) (n : ℕ) (out : List ℕ) → a ≡ refused x → n ≡ refusalNumber x → BuiltAs (written a out) (Refused n) out
-numbered a x n out e q = rw q (nothing a x out e)
+module _ (corner few : Bool) (k f : ℕ) (sa sc off : List ℕ) (hi m ex ey : ℕ) (val ns : List ℕ) (s : Spells few k f sa sc off hi m ex ey val ns) where
+  pub spelling-of : (i : ℕ) → i < length ns → Spelling few k f sa sc off hi m ex ey val (getD ns i 0)
+  spelling-of i l = record { ready = s .ready; solid = s .solid; fits = s .fits; less = below-at (W k f sa sc ex ey) ns (s .below) i l }
 
-pub build-over : (J : rules.Job) (n : ℕ) (out : List ℕ) → 2 ^ 64 ≤ countOf J → BuiltAs (written (edgeFor J n) out) (Refused 4) out
-unfolding refusalNumber
-build-over J n out l = numbered (edgeFor J n) over 4 out (rw (lt-leb (countOf J) most (omega arith)) refl) refl
+pub front-next : (g : ℕ → List ℕ) (ns steps ends : List ℕ) (i at : ℕ) (s t : List ℕ) → Lining g ns steps ends i at s t
+    → (n : ℕ) (part : List ℕ) → i < length ns → Front (g (getD ns i 0)) (take (length s - at) (drop at s)) part n
+    → Lining g ns steps ends (i + 1) (at + n) (putMid at (length s - at) s part) (set t i (at + n))
+front-next g ns steps ends i at s t so n part l w = lining-next g ns steps ends i at s t so n part l (w .long) (w .short) (w .shown)
 
-pub build-beyond : (J : rules.Job) (n : ℕ) (out : List ℕ) → countOf J < 2 ^ 64 → countOf J ≤ n → BuiltAs (written (edgeFor J n) out) (Refused 6) out
-unfolding refusalNumber
-build-beyond J n out l h = numbered (edgeFor J n) beyond 6 out (rw (le-leb (countOf J) most (omega arith), le-ltb n (countOf J) h) refl) refl
+-- ---- by the table's count
 
-pub build-none : (J : rules.Job) (n : ℕ) (out : List ℕ) → countOf J ≡ 0 → BuiltAs (written (edgeFor J n) out) (Refused 6) out
-build-none J n out e = build-beyond J n out (omega arith) (omega arith)
+pub below-told : (ns : List ℕ) (w c : ℕ) (t : Bool) → c ≡ w → t ≡ allBelow c ns → allBelow w ns ≡ t
+below-told ns w c t e q = sym (q ∙ ap (λ (z : ℕ). allBelow z ns) e)
 
-module _ (J : rules.Job) (s : Shape) (r : InRange J) (g : Grids J) (w : Working J s) (n : ℕ) (buf : List ℕ) (state at : ℕ)
-    (t : SpeltAs (s .corner) (s .k) (s .f) (s .sa) (s .sc) (s .ex) (s .ey) n buf state at) where
-  same : W (s .k) (s .f) (s .sa) (s .sc) (s .ex) (s .ey) ≡ countOf J
-  same = shape-count J s r (w .fits)
+module _ (corner : Bool) (k f : ℕ) (sa sc : List ℕ) (ex ey : ℕ) (ns steps ends : List ℕ) where
+  pub for-over : 2 ^ 64 ≤ W k f sa sc ex ey → LinedAs (lined (edgesFor corner k f sa sc ex ey ns) steps ends) (Refused 4) steps ends
+  unfolding refusalNumber
+  for-over l = lined-refused (edgesFor corner k f sa sc ex ey ns) over 4 steps ends (rw (lt-leb (W k f sa sc ex ey) most (omega arith)) refl) refl
 
-  pub build-refused : (out : List ℕ) → (state ≡ 0 → ⊥) → BuiltAs (written (edgeFor J n) out) (Refused state) out
-  build-refused out f = go t
+  pub for-beyond : W k f sa sc ex ey < 2 ^ 64 → allBelow (W k f sa sc ex ey) ns ≡ false → LinedAs (lined (edgesFor corner k f sa sc ex ey ns) steps ends) (Refused 6) steps ends
+  unfolding refusalNumber
+  for-beyond l e =
+      lined-refused (edgesFor corner k f sa sc ex ey ns) beyond 6 steps ends (rw (le-leb (W k f sa sc ex ey) most (omega arith), e) refl) refl
+
+  pub for-all : (x : Built) (s t : List ℕ) → W k f sa sc ex ey < 2 ^ 64 → allBelow (W k f sa sc ex ey) ns ≡ true
+      → LinedAs (lined (accepted (edgesBy corner k f sa sc ex ey ns)) steps ends) x s t → LinedAs (lined (edgesFor corner k f sa sc ex ey ns) steps ends) x s t
+  for-all x s t l e w = rw (le-leb (W k f sa sc ex ey) most (omega arith), e) w
+
+-- ---- by the shape's state
+
+module _ (J : rules.Job) (ns steps ends : List ℕ) where
+  pub build-over : 2 ^ 64 ≤ countOf J → LinedAs (lined (edgesOf J ns) steps ends) (Refused 4) steps ends
+  unfolding refusalNumber
+  build-over l = lined-refused (edgesOf J ns) over 4 steps ends (rw (lt-leb (countOf J) most (omega arith)) refl) refl
+
+  pub build-none : countOf J ≡ 0 → (length ns ≡ 0 → ⊥) → LinedAs (lined (edgesOf J ns) steps ends) (Refused 6) steps ends
+  unfolding refusalNumber
+  build-none e n =
+      lined-refused (edgesOf J ns) beyond 6 steps ends
+      (rw (le-leb (countOf J) most (omega arith), below-not (countOf J) ns 0 (omega arith) (omega arith)) refl) refl
+
+  pub build-empty : countOf J ≡ 0 → length ns ≡ 0 → LinedAs (lined (edgesOf J ns) steps ends) (Length 0) steps ends
+  unfolding lined joined endsFrom allBelow
+  build-empty e n = rw (le-leb (countOf J) most (omega arith)) (go ns n)
     where
-      go : SpeltAs (s .corner) (s .k) (s .f) (s .sa) (s .sc) (s .ex) (s .ey) n buf state at → BuiltAs (written (edgeFor J n) out) (Refused state) out
-      go (is-over e l) = rw e (build-over J n out (omega (arith, same)))
-      go (is-beyond e l h) = rw e (build-beyond J n out (omega (arith, same)) (omega (arith, same)))
-      go (spelt e l h a q) = absurd (f e)
+      go : (ns : List ℕ) → length ns ≡ 0 → LinedAs (lined (check (allBelow (countOf J) ns) beyond (accepted (map (edgeOf J) ns))) steps ends) (Length 0) steps ends
+      go [] n = record { says = refl; bytes = refl; places = refl }
+      go (x ∷ ns) n = absurd (omega arith)
 
-  edge-is : state ≡ 0 → edgeFor J n ≡ accepted (drop at buf)
-  edge-is z = go t
-    where
-      go : SpeltAs (s .corner) (s .k) (s .f) (s .sa) (s .sc) (s .ex) (s .ey) n buf state at → edgeFor J n ≡ accepted (drop at buf)
-      go (is-over e l) = absurd (omega arith)
-      go (is-beyond e l h) = absurd (omega arith)
-      go (spelt e l h a q) =
-          rw (le-leb (countOf J) most (omega (arith, same)), lt-ltb n (countOf J) (omega (arith, same)))
-          (ap accepted (sym (shape-spells J s g r (w .fits) n (omega (arith, same))) ∙ sym q))
+-- two ways to an edge that agree below c agree on a list of numbers below c
+same-edges : (g h : ℕ → List ℕ) (c : ℕ) (ns : List ℕ) → ((r : ℕ) → r < c → g r ≡ h r) → ((i : ℕ) → i < length ns → getD ns i 0 < c) → map g ns ≡ map h ns
+same-edges g h c [] e l = refl
+same-edges g h c (n ∷ ns) e l =
+    ap (λ (z : List ℕ). z ∷ map g ns) (e n (l 0 (omega arith))) ∙ ap (λ (z : List (List ℕ)). h n ∷ z) (same-edges g h c ns e (λ i b. l (suc i) (omega arith)))
 
-  pub spelt-at : state ≡ 0 → at ≤ 128
-  spelt-at z = go t
-    where
-      go : SpeltAs (s .corner) (s .k) (s .f) (s .sa) (s .sc) (s .ex) (s .ey) n buf state at → at ≤ 128
-      go (is-over e l) = absurd (omega arith)
-      go (is-beyond e l h) = absurd (omega arith)
-      go (spelt e l h a q) = a
+build-shaped : (J : rules.Job) (s : Shape) → InRange J → Grids J → Working J s → (ns : List ℕ)
+    → edgesFor (s .corner) (s .k) (s .f) (s .sa) (s .sc) (s .ex) (s .ey) ns ≡ edgesOf J ns
+build-shaped J s r g w ns = rw same (go (allBelow (countOf J) ns) refl)
+  where
+    same : W (s .k) (s .f) (s .sa) (s .sc) (s .ex) (s .ey) ≡ countOf J
+    same = shape-count J s r (w .fits)
 
-  pub build-put : (out after : List ℕ) (len : ℕ) (x : Built) → state ≡ 0 → length buf ≡ len → BuiltAs (written (accepted (take (len - at) (drop at buf))) out) x after → BuiltAs (written (edgeFor J n) out) x after
-  build-put out after len x z l b = rw (edge-is z ∙ ap accepted (sym (take-all (len - at) (drop at buf) (omega (arith, length-drop at buf, l))))) b
+    by : ℕ → List ℕ
+    by = edges.edgeOf (s .corner) (s .k) (s .f) (s .sa) (s .sc) (s .ex) (s .ey)
+
+    go : (t : Bool) → allBelow (countOf J) ns ≡ t
+        → check (leb (countOf J) most) over (check t beyond (accepted (map by ns))) ≡ check (leb (countOf J) most) over (check t beyond (accepted (map (edgeOf J) ns)))
+    go true e =
+        ap (λ (z : List (List ℕ)). check (leb (countOf J) most) over (accepted z))
+        (same-edges by (edgeOf J) (countOf J) ns (λ q l. shape-spells J s g r (w .fits) q (omega (arith, same))) (below-at (countOf J) ns e))
+    go false e = refl
+
+pub shaped-lined : (J : rules.Job) (s : Shape) → InRange J → Grids J → Working J s → (ns steps ends : List ℕ) (x : Built) (t u : List ℕ)
+    → LinedAs (lined (edgesFor (s .corner) (s .k) (s .f) (s .sa) (s .sc) (s .ex) (s .ey) ns) steps ends) x t u → LinedAs (lined (edgesOf J ns) steps ends) x t u
+shaped-lined J s r g w ns steps ends x t u l = rw (build-shaped J s r g w ns) at l
 
 -- ---- the ways through a block
 
-pub build-square : (b out : List ℕ) (w : Written) → square (familyOf b) ≡ true → BuiltAs (forGridWritten b w out) (Refused 11) out
-unfolding refusalNumber
-build-square b out w e = rw e (record { says = refl; output = refl })
+module _ (b ns steps ends : List ℕ) where
+  pub build-square : square (familyOf b) ≡ true → LinedAs (lined (forGrid b (edgesAnswer b ns)) steps ends) (Refused 11) steps ends
+  unfolding refusalNumber
+  build-square e = lined-refused (forGrid b (edgesAnswer b ns)) kind 11 steps ends (rw e refl) refl
 
-pub build-told : (b out : List ℕ) (n r : ℕ) → square (familyOf b) ≡ false → Told b r → BuiltAs (forGridWritten b (buildAnswer b n out) out) (Refused r) out
-build-told b out n r e t =
-    rw (e, build-of b n out) (numbered (edgeAnswer b n) (t .refusal) r out (edge-told b n (t .refusal) (known-told b (t .refusal) (t .answer))) (t .number))
+  pub build-told : (r : ℕ) → square (familyOf b) ≡ false → Told b r → LinedAs (lined (forGrid b (edgesAnswer b ns)) steps ends) (Refused r) steps ends
+  build-told r e t =
+      lined-refused (forGrid b (edgesAnswer b ns)) (t .refusal) r steps ends
+      (rw e (edges-told b ns (t .refusal) (known-told b (t .refusal) (t .answer)))) (t .number)
 
-pub build-reply : (b out after : List ℕ) (n : ℕ) (J : rules.Job) (x : Built) → square (familyOf b) ≡ false → jobAnswer b ≡ accepted J
-    → BuiltAs (written (edgeFor J n) out) x after → BuiltAs (forGridWritten b (buildAnswer b n out) out) x after
-build-reply b out after n J x e a q = rw (e, build-of b n out, edge-fitted b J a n) q
+  pub build-reply : (J : rules.Job) (x : Built) (s t : List ℕ) → square (familyOf b) ≡ false → jobAnswer b ≡ accepted J
+      → LinedAs (lined (edgesOf J ns) steps ends) x s t → LinedAs (lined (forGrid b (edgesAnswer b ns)) steps ends) x s t
+  build-reply J x s t e a q = rw (e, edges-fitted b ns J a) q

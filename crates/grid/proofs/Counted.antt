@@ -106,7 +106,7 @@ count-told-reply b r e t = told-reply b r (countAnswer b) e t (count-told b (t .
 pub sound-of : (b : List ℕ) (j : Job) → Kept b j → square (familyOf b) ≡ false → Sound j
 sound-of b j k e = record { job = k .job; stands = k .stands; grids = grids-of j (k .job) (k .stands) (ap square (k .family) ∙ e) }
 
-pub count-reply : (b : List ℕ) (J : rules.Job) (x : Reply) → square (familyOf b) ≡ false → jobAnswer b ≡ accepted J
+pub count-reply : (b : List ℕ) (J : rules.Job) (x : Reply ℕ) → square (familyOf b) ≡ false → jobAnswer b ≡ accepted J
     → x ≡ reply (check (leb (countOf J) most) over (accepted (countOf J))) → x ≡ reply (forGrid b (countAnswer b))
 count-reply b J x e a q = q ∙ rw e (ap reply (sym (count-fitted b J a)))
 
@@ -138,6 +138,6 @@ table-is J s e r g w =
 pub number-told-reply : (b : List ℕ) (e : List ℕ) (r : ℕ) → square (familyOf b) ≡ false → Told b r → refusal r ≡ reply (forGrid b (numberAnswer b e))
 number-told-reply b s r e t = told-reply b r (numberAnswer b s) e t (number-told b s (t .refusal) (known-told b (t .refusal) (t .answer)))
 
-pub number-reply : (b : List ℕ) (s : List ℕ) (J : rules.Job) (x : Reply) → square (familyOf b) ≡ false → jobAnswer b ≡ accepted J
+pub number-reply : (b : List ℕ) (s : List ℕ) (J : rules.Job) (x : Reply ℕ) → square (familyOf b) ≡ false → jobAnswer b ≡ accepted J
     → x ≡ reply (check (leb (countOf J) most) over (check (walks J origin s) not-an-edge (accepted (numberOf J s)))) → x ≡ reply (forGrid b (numberAnswer b s))
-number-reply b s J x e a q = q ∙ rw e (ap reply (sym (number-fitted b J a s)))
+number-reply b s J x e a q = q ∙ rw e (ap reply (sym (number-fitted b s J a)))

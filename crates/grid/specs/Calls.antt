@@ -4,13 +4,12 @@
 --   forGrid b a      the answer a to block b, or refusal 11
 --   Countable s      the shape s is some job's
 --   NumbersAs s e r  r says the number of the edge e of every such job, or refusal 4 or 5
---   forGridWritten   the same for a write
---   edgeFor J n      the edge of number n of a job, or refusal 4 or 6; BuildsAs: that edge written
+--   edgesOf J ns     the edges of the numbers ns of a job, or refusal 4 or 6; BuildsAs: those edges written
 --   CountsAs s r     r says the count of every job whose shape is s, or refusal 4
 use mathlib.Core.Path.{_≡_}
-use mathlib.Core.List.{List}
+use mathlib.Core.List.{List, map}
 use Prim.Native.Nat.{ℕ}
-use lib.Dec.{leb, ltb}
+use lib.Dec.{leb}
 use Rattle.howmany.specs.Choose.{pick}
 use Rattle.rules.specs.Jobs as rules
 use Rattle.rules.specs.Points.{origin}
@@ -21,12 +20,14 @@ use Rattle.rules.specs.Blocks.{familyOf, square}
 use Rattle.rules.specs.Refusals.{Answer, check}
 use Rattle.rules.specs.Refusals.Refusal.{kind, over, not-an-edge, beyond}
 use Rattle.rules.specs.Refusals.Answer.{accepted, refused}
-use Rattle.rules.specs.Answers.{most, Written, written}
+use Rattle.rules.specs.Answers.{most}
+use Rattle.rules.specs.Questions.{allBelow}
 use Rattle.rules.proofs.Demand3.{InRange}
 use Rattle.job.specs.declared.Counted.{Counted}
 use Rattle.job.specs.declared.Numbered.{Numbered}
 use Rattle.job.specs.declared.Built.{Built}
-use Rattle.job.specs.Replies.{reply, countSays, numberSays, BuiltAs}
+use Rattle.job.specs.Replies.{reply, countSays, numberSays}
+use Rattle.lines.specs.Lines.{lined, LinedAs}
 use Rattle.grid.specs.Shapes.{Grids, Shaped}
 use Rattle.grid.specs.declared.shape.Shape.{Shape}
 
@@ -47,13 +48,10 @@ NumbersAs s e r =
     (J : rules.Job) → InRange J → Grids J → Shaped J s
     → numberSays r ≡ reply (check (leb (countOf J) most) over (check (walks J origin e) not-an-edge (accepted (numberOf J e))))
 
--- the same for a write: refused, nothing is written
-abbrev pub forGridWritten : List ℕ → Written → List ℕ → Written
-forGridWritten b w output = pick (square (familyOf b)) (record { answer = refused kind; output = output }) w
+-- the edges of the numbers ns of the job, or refusal 4 or 6
+abbrev pub edgesOf : rules.Job → List ℕ → Answer (List (List ℕ))
+edgesOf J ns = check (leb (countOf J) most) over (check (allBelow (countOf J) ns) beyond (accepted (map (edgeOf J) ns)))
 
--- the edge of number n of the job, or refusal 4 or 6
-abbrev pub edgeFor : rules.Job → ℕ → Answer (List ℕ)
-edgeFor J n = check (leb (countOf J) most) over (check (ltb n (countOf J)) beyond (accepted (edgeOf J n)))
-
-abbrev pub BuildsAs : Shape → ℕ → List ℕ → List ℕ → Built → Type 0
-BuildsAs s n output after r = (J : rules.Job) → InRange J → Grids J → Shaped J s → BuiltAs (written (edgeFor J n) output) r after
+abbrev pub BuildsAs : Shape → List ℕ → List ℕ → List ℕ → List ℕ → List ℕ → Built → Type 0
+BuildsAs s ns steps ends after-steps after-ends r =
+    (J : rules.Job) → InRange J → Grids J → Shaped J s → LinedAs (lined (edgesOf J ns) steps ends) r after-steps after-ends

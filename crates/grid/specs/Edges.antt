@@ -61,9 +61,8 @@ pub record Sought (g : ℕ → ℕ) (k r l rest : ℕ) : Type 0 where
   pub falls : Falls g k r l
   pub left : sum g l + rest ≡ r
 
-pub record Spelling (few : Bool) (k f : ℕ) (sa sc off : List ℕ) (hi m ex ey : ℕ) (val : List ℕ) (r : ℕ) (buf : List ℕ) : Type 0 where
+pub record Spelling (few : Bool) (k f : ℕ) (sa sc off : List ℕ) (hi m ex ey : ℕ) (val : List ℕ) (r : ℕ) : Type 0 where
   pub ready : Ready few k f sa sc off hi m ex ey val
   pub solid : Solid k f sa sc hi m ex ey val
   pub fits : W k f sa sc ex ey < 2 ^ 64
   pub less : r < W k f sa sc ex ey
-  pub room : length buf ≡ 128

@@ -1,16 +1,39 @@
--- The edge of a number by the table: refusals 4 and 6 in their order, or the edge at the end of a buffer of 128 bytes.
+-- The edges of a list of numbers by the table.
 --
---   SpeltAs ..    what a state and a place say, with the buffer's bytes afterwards
+--   Front e old new n    the first n of the bytes old are now e, and the others are as they were
+--   Spells ..            the table is filled, and all numbers are below the count
+--   edgesBy ..           the edges of the numbers ns
+--   edgesFor ..          that, or refusal 4 or 6
 use mathlib.Core.Path.{_≡_}
-use mathlib.Core.Bool.{Bool}
-use mathlib.Core.List.{List}
+use mathlib.Core.Bool.{Bool, true}
+use mathlib.Core.List.{List, _++_, map}
 use Prim.Native.Nat.{ℕ, _^_, _≤_, _<_}
-use lib.ListN.{drop}
+use lib.Dec.{leb}
+use lib.ListN.{length, drop}
+use Rattle.rules.specs.Refusals.{Answer, check}
+use Rattle.rules.specs.Refusals.Refusal.{over, beyond}
+use Rattle.rules.specs.Refusals.Answer.{accepted}
+use Rattle.rules.specs.Answers.{most}
+use Rattle.rules.specs.Questions.{allBelow}
 use Rattle.grid.specs.Form.{W}
 use Rattle.grid.specs.Edges.{edgeOf}
+use Rattle.grid.specs.Table.{Ready}
+use Rattle.grid.specs.Filling.{Solid}
 
-pub data SpeltAs (corner : Bool) (k f : ℕ) (sa sc : List ℕ) (ex ey r : ℕ) (after : List ℕ) (state at : ℕ) : Type 0 where
-  over : state ≡ 4 → 2 ^ 64 ≤ W k f sa sc ex ey → SpeltAs corner k f sa sc ex ey r after state at
-  beyond : state ≡ 6 → W k f sa sc ex ey < 2 ^ 64 → W k f sa sc ex ey ≤ r → SpeltAs corner k f sa sc ex ey r after state at
-  spelt : state ≡ 0 → W k f sa sc ex ey < 2 ^ 64 → r < W k f sa sc ex ey → at ≤ 128 → drop at after ≡ edgeOf corner k f sa sc ex ey r
-      → SpeltAs corner k f sa sc ex ey r after state at
+pub record Front (e old new : List ℕ) (n : ℕ) : Type 0 where
+  pub shown : new ≡ e ++ drop n old
+  pub long : n ≡ length e
+  pub short : n ≤ 128
+
+pub record Spells (few : Bool) (k f : ℕ) (sa sc off : List ℕ) (hi m ex ey : ℕ) (val ns : List ℕ) : Type 0 where
+  pub ready : Ready few k f sa sc off hi m ex ey val
+  pub solid : Solid k f sa sc hi m ex ey val
+  pub fits : W k f sa sc ex ey < 2 ^ 64
+  pub below : allBelow (W k f sa sc ex ey) ns ≡ true
+
+abbrev pub edgesBy : Bool → ℕ → ℕ → List ℕ → List ℕ → ℕ → ℕ → List ℕ → List (List ℕ)
+edgesBy corner k f sa sc ex ey ns = map (edgeOf corner k f sa sc ex ey) ns
+
+abbrev pub edgesFor : Bool → ℕ → ℕ → List ℕ → List ℕ → ℕ → ℕ → List ℕ → Answer (List (List ℕ))
+edgesFor corner k f sa sc ex ey ns =
+    check (leb (W k f sa sc ex ey) most) over (check (allBelow (W k f sa sc ex ey) ns) beyond (accepted (edgesBy corner k f sa sc ex ey ns)))

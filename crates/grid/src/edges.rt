@@ -1,7 +1,7 @@
 // Edges of the grid from their end backwards: validity, the number of an edge, and the edge of a number.
 ghost use mathlib.Core.Path.{_≡_};
 ghost use Prim.Native.Nat.{_≤_, _<_};
-ghost use lib.ListN.{drop};
+ghost use lib.ListN.{length, drop};
 ghost use Rattle.howmany.specs.Sum.{sum};
 ghost use Rattle.grid.specs.Form.{Form, via};
 ghost use Rattle.grid.specs.Edges.{isEdge, numberOf, edgeOf, Reads, Ranking, Sought, Spelling};
@@ -168,7 +168,7 @@ pub(crate) fn spell(
     r: u64,
     buf: &mut [u8],
 ) -> usize
-    requires { ⌜ Spelling few k f (now sa) (now sc) (now off) hi m ex ey (now val) r (now buf) ⌝ }
+    requires { ⌜ Spelling few k f (now sa) (now sc) (now off) hi m ex ey (now val) r × (length (now buf) ≡ 128) ⌝ }
     ensures { λ s. ⌜ (s ≤ 128) × (drop s (now (buf .exit)) ≡ edgeOf corner k f (now (sa .entry)) (now (sc .entry)) ex ey r) ⌝ }
 {
     let mut x = ex;

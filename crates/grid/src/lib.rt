@@ -1,8 +1,11 @@
 // Families 1, 3, 6 and 7: count, number and build over the one grid that the four become by a shear.
 ghost use mathlib.Core.Path.{_≡_};
-ghost use Rattle.rules.specs.Answers.{buildAnswer, countAnswer, numberAnswer};
-ghost use Rattle.job.specs.Replies.{reply, countSays, numberSays, BuiltAs};
-ghost use Rattle.grid.specs.Calls.{forGrid, forGridWritten, BuildsAs, Countable, CountsAs, NumbersAs};
+ghost use lib.ListN.{length};
+ghost use Rattle.rules.specs.Answers.{countAnswer, numberAnswer};
+ghost use Rattle.rules.specs.Questions.{edgesAnswer};
+ghost use Rattle.job.specs.Replies.{reply, countSays, numberSays};
+ghost use Rattle.lines.specs.Lines.{lines, LinedAs, Room};
+ghost use Rattle.grid.specs.Calls.{forGrid, BuildsAs, Countable, CountsAs, NumbersAs};
 
 mod column;
 mod cone;
@@ -97,10 +100,13 @@ fn number_shape(s: Shape, edge: &[u8]) -> Numbered
     numbering::number(&sa, &sc, s.k, s.f, s.top, s.ex, s.ey, s.corner, edge)
 }
 
-// The edge of a number, written to the front of the output (000, algorithms 2 and 6; 001, algorithm 8).
-pub fn build(block: &[u8], number: u64, out: &mut [u8]) -> Built
-    ensures { λ r. ⌜ BuiltAs (forGridWritten (now (block .entry)) (buildAnswer (now (block .entry)) number (now (out .entry))) (now (out .entry))) r (now (out .exit)) ⌝ }
+// The edges of a list of numbers, one after the other, and where each ends (000, algorithms 2 and 6; 001, algorithm 8).
+pub fn build_all(block: &[u8], numbers: &[u64], steps: &mut [u8], ends: &mut [usize]) -> Built
+    ensures { λ r. ⌜ LinedAs (lines (forGrid (now (block .entry)) (edgesAnswer (now (block .entry)) (now (numbers .entry)))) (now (numbers .entry)) (now (steps .entry)) (now (ends .entry))) r (now (steps .exit)) (now (ends .exit)) ⌝ }
 {
+    if !lines::has_room(numbers.len(), steps.len(), ends.len()) {
+        return Built::Refused(7);
+    }
     if job::is_square(block) {
         return Built::Refused(11);
     }
@@ -111,24 +117,26 @@ pub fn build(block: &[u8], number: u64, out: &mut [u8]) -> Built
     }
     let job = made.job;
     let s = shape::shape_of(job);
-    build_shape(s, number, out)
+    build_shape(s, numbers, steps, ends)
 }
 
-fn build_shape(s: Shape, number: u64, out: &mut [u8]) -> Built
-    requires { ⌜ Countable s ⌝ }
-    ensures { λ r. ⌜ BuildsAs s number (now (out .entry)) (now (out .exit)) r ⌝ }
+fn build_shape(s: Shape, numbers: &[u64], steps: &mut [u8], ends: &mut [usize]) -> Built
+    requires { ⌜ Countable s × Room (length (now numbers)) (length (now steps)) (length (now ends)) ⌝ }
+    ensures { λ r. ⌜ BuildsAs s (now (numbers .entry)) (now (steps .entry)) (now (ends .entry)) (now (steps .exit)) (now (ends .exit)) r ⌝ }
 {
     let state = s.state;
     if state == 1 {
         return Built::Refused(4);
     }
     if state == 2 {
-        return Built::Refused(6);
+        if numbers.len() != 0 {
+            return Built::Refused(6);
+        }
+        return Built::Length(0);
     }
     let sa = s.sa;
     let sc = s.sc;
-    let mut buf = [0u8; 128];
-    let spelt = spelling::spell_edge(
+    spelling::spell_edges(
         &sa,
         &sc,
         s.k,
@@ -137,13 +145,8 @@ fn build_shape(s: Shape, number: u64, out: &mut [u8]) -> Built
         s.ex,
         s.ey,
         s.corner,
-        number,
-        &mut buf,
-    );
-    let refusal = spelt.state;
-    if refusal != 0 {
-        return Built::Refused(refusal);
-    }
-    let at = spelt.at;
-    job::put(&buf[at..], out)
+        numbers,
+        steps,
+        ends,
+    )
 }

@@ -1,10 +1,14 @@
-// The edge of a number: the table is filled once, so that refusal 4 goes before 6, and then the edge is spelt from its end.
-ghost use mathlib.Core.Path.{_≡_};
+// The edges of a list of numbers: the table is filled once, so that refusal 4 goes before 6, and then each edge is spelt from its end.
+ghost use Prim.Native.Nat.{_≤_};
 ghost use lib.ListN.{length};
+ghost use Rattle.rules.specs.Refusals.Answer.{accepted};
+ghost use Rattle.job.specs.declared.Built.the-variants.{Length};
+ghost use Rattle.lines.specs.Lines.{lined, LinedAs, Room};
 ghost use Rattle.grid.specs.Form.{Form};
+ghost use Rattle.grid.specs.Edges.{edgeOf, Spelling};
 ghost use Rattle.grid.specs.Filling.{Begun};
 ghost use Rattle.grid.specs.Table.{Prepared};
-ghost use Rattle.grid.specs.Spelling.{SpeltAs};
+ghost use Rattle.grid.specs.Spelling.{Front, Spells, edgesBy, edgesFor};
 use crate::Answer;
 use crate::edges::spell;
 use crate::plan::deepest;
@@ -12,14 +16,97 @@ use crate::plan::is_few;
 use crate::plan::offsets;
 use crate::plan::steepest;
 use crate::table::fill;
+use job::Built;
 
-// State 0: the edge stands at the end of the buffer, from at on. Else the refusal's number.
-pub(crate) struct Spelt {
-    pub(crate) state: u8,
-    pub(crate) at: usize,
+// The edge of number r, to the front of steps; the answer is its length.
+fn spell_front(
+    val: &[u64],
+    sa: &[usize; 8],
+    sc: &[usize; 8],
+    off: &[usize; 8],
+    few: bool,
+    k: usize,
+    f: usize,
+    hi: usize,
+    m: usize,
+    ex: usize,
+    ey: usize,
+    corner: bool,
+    r: u64,
+    steps: &mut [u8],
+) -> usize
+    requires { ⌜ Spelling few k f (now sa) (now sc) (now off) hi m ex ey (now val) r × (128 ≤ length (now steps)) ⌝ }
+    ensures { λ n. ⌜ Front (edgeOf corner k f (now (sa .entry)) (now (sc .entry)) ex ey r) (now (steps .entry)) (now (steps .exit)) n ⌝ }
+{
+    let mut buf = [0u8; 128];
+    let at = spell(
+        val,
+        sa,
+        sc,
+        off,
+        few,
+        k,
+        f,
+        hi,
+        m,
+        ex,
+        ey,
+        corner,
+        r,
+        &mut buf,
+    );
+    job::put(&buf[at..], steps);
+    128 - at
 }
 
-// The edge of number r over a table that is still blank.
+// The edges, one after the other, and where each ends; the answer is where the last one does.
+fn spell_all(
+    val: &[u64],
+    sa: &[usize; 8],
+    sc: &[usize; 8],
+    off: &[usize; 8],
+    few: bool,
+    k: usize,
+    f: usize,
+    hi: usize,
+    m: usize,
+    ex: usize,
+    ey: usize,
+    corner: bool,
+    numbers: &[u64],
+    steps: &mut [u8],
+    ends: &mut [usize],
+) -> usize
+    requires { ⌜ Spells few k f (now sa) (now sc) (now off) hi m ex ey (now val) (now numbers) × Room (length (now numbers)) (length (now steps)) (length (now ends)) ⌝ }
+    ensures { λ at. ⌜ LinedAs (lined (accepted (edgesBy corner k f (now (sa .entry)) (now (sc .entry)) ex ey (now (numbers .entry)))) (now (steps .entry)) (now (ends .entry))) (Length at) (now (steps .exit)) (now (ends .exit)) ⌝ }
+{
+    let mut at: usize = 0;
+    let mut i: usize = 0;
+    while i < numbers.len() {
+        let n = spell_front(
+            val,
+            sa,
+            sc,
+            off,
+            few,
+            k,
+            f,
+            hi,
+            m,
+            ex,
+            ey,
+            corner,
+            numbers[i],
+            &mut steps[at..],
+        );
+        at += n;
+        ends[i] = at;
+        i += 1;
+    }
+    at
+}
+
+// The edges over a table that is still blank, or refusal 4 or 6.
 fn spell_in(
     val: &mut [u64],
     sa: &[usize; 8],
@@ -33,20 +120,37 @@ fn spell_in(
     ex: usize,
     ey: usize,
     corner: bool,
-    r: u64,
-    buf: &mut [u8],
-) -> Spelt
-    requires { ⌜ Begun few k f (now sa) (now sc) (now off) hi m ex ey (now val) × (length (now buf) ≡ 128) ⌝ }
-    ensures { λ t. ⌜ SpeltAs corner k f (now (sa .entry)) (now (sc .entry)) ex ey r (now (buf .exit)) (t .state) (t .at) ⌝ }
+    numbers: &[u64],
+    steps: &mut [u8],
+    ends: &mut [usize],
+) -> Built
+    requires { ⌜ Begun few k f (now sa) (now sc) (now off) hi m ex ey (now val) × Room (length (now numbers)) (length (now steps)) (length (now ends)) ⌝ }
+    ensures { λ r. ⌜ LinedAs (lined (edgesFor corner k f (now (sa .entry)) (now (sc .entry)) ex ey (now (numbers .entry))) (now (steps .entry)) (now (ends .entry))) r (now (steps .exit)) (now (ends .exit)) ⌝ }
 {
     let Answer::Count(c) = fill(val, sa, sc, off, few, k, f, hi, m, ex, ey) else {
-        return Spelt { state: 4, at: 0 };
+        return Built::Refused(4);
     };
-    if c <= r {
-        return Spelt { state: 6, at: 0 };
+    if !lines::all_below(numbers, c) {
+        return Built::Refused(6);
     }
-    let at = spell(val, sa, sc, off, few, k, f, hi, m, ex, ey, corner, r, buf);
-    Spelt { state: 0, at }
+    let at = spell_all(
+        val,
+        sa,
+        sc,
+        off,
+        few,
+        k,
+        f,
+        hi,
+        m,
+        ex,
+        ey,
+        corner,
+        numbers,
+        steps,
+        ends,
+    );
+    Built::Length(at)
 }
 
 fn spell_1024(
@@ -61,11 +165,12 @@ fn spell_1024(
     ex: usize,
     ey: usize,
     corner: bool,
-    r: u64,
-    buf: &mut [u8],
-) -> Spelt
-    requires { ⌜ Prepared few k f (now sa) (now sc) (now off) hi m ex ey 1024 × (length (now buf) ≡ 128) ⌝ }
-    ensures { λ t. ⌜ SpeltAs corner k f (now (sa .entry)) (now (sc .entry)) ex ey r (now (buf .exit)) (t .state) (t .at) ⌝ }
+    numbers: &[u64],
+    steps: &mut [u8],
+    ends: &mut [usize],
+) -> Built
+    requires { ⌜ Prepared few k f (now sa) (now sc) (now off) hi m ex ey 1024 × Room (length (now numbers)) (length (now steps)) (length (now ends)) ⌝ }
+    ensures { λ r. ⌜ LinedAs (lined (edgesFor corner k f (now (sa .entry)) (now (sc .entry)) ex ey (now (numbers .entry))) (now (steps .entry)) (now (ends .entry))) r (now (steps .exit)) (now (ends .exit)) ⌝ }
 {
     let mut val = [0u64; 1024];
     spell_in(
@@ -81,8 +186,9 @@ fn spell_1024(
         ex,
         ey,
         corner,
-        r,
-        buf,
+        numbers,
+        steps,
+        ends,
     )
 }
 
@@ -98,11 +204,12 @@ fn spell_2048(
     ex: usize,
     ey: usize,
     corner: bool,
-    r: u64,
-    buf: &mut [u8],
-) -> Spelt
-    requires { ⌜ Prepared few k f (now sa) (now sc) (now off) hi m ex ey 2048 × (length (now buf) ≡ 128) ⌝ }
-    ensures { λ t. ⌜ SpeltAs corner k f (now (sa .entry)) (now (sc .entry)) ex ey r (now (buf .exit)) (t .state) (t .at) ⌝ }
+    numbers: &[u64],
+    steps: &mut [u8],
+    ends: &mut [usize],
+) -> Built
+    requires { ⌜ Prepared few k f (now sa) (now sc) (now off) hi m ex ey 2048 × Room (length (now numbers)) (length (now steps)) (length (now ends)) ⌝ }
+    ensures { λ r. ⌜ LinedAs (lined (edgesFor corner k f (now (sa .entry)) (now (sc .entry)) ex ey (now (numbers .entry))) (now (steps .entry)) (now (ends .entry))) r (now (steps .exit)) (now (ends .exit)) ⌝ }
 {
     let mut val = [0u64; 2048];
     spell_in(
@@ -118,8 +225,9 @@ fn spell_2048(
         ex,
         ey,
         corner,
-        r,
-        buf,
+        numbers,
+        steps,
+        ends,
     )
 }
 
@@ -135,11 +243,12 @@ fn spell_3072(
     ex: usize,
     ey: usize,
     corner: bool,
-    r: u64,
-    buf: &mut [u8],
-) -> Spelt
-    requires { ⌜ Prepared few k f (now sa) (now sc) (now off) hi m ex ey 3072 × (length (now buf) ≡ 128) ⌝ }
-    ensures { λ t. ⌜ SpeltAs corner k f (now (sa .entry)) (now (sc .entry)) ex ey r (now (buf .exit)) (t .state) (t .at) ⌝ }
+    numbers: &[u64],
+    steps: &mut [u8],
+    ends: &mut [usize],
+) -> Built
+    requires { ⌜ Prepared few k f (now sa) (now sc) (now off) hi m ex ey 3072 × Room (length (now numbers)) (length (now steps)) (length (now ends)) ⌝ }
+    ensures { λ r. ⌜ LinedAs (lined (edgesFor corner k f (now (sa .entry)) (now (sc .entry)) ex ey (now (numbers .entry))) (now (steps .entry)) (now (ends .entry))) r (now (steps .exit)) (now (ends .exit)) ⌝ }
 {
     let mut val = [0u64; 3072];
     spell_in(
@@ -155,8 +264,9 @@ fn spell_3072(
         ex,
         ey,
         corner,
-        r,
-        buf,
+        numbers,
+        steps,
+        ends,
     )
 }
 
@@ -172,11 +282,12 @@ fn spell_4096(
     ex: usize,
     ey: usize,
     corner: bool,
-    r: u64,
-    buf: &mut [u8],
-) -> Spelt
-    requires { ⌜ Prepared few k f (now sa) (now sc) (now off) hi m ex ey 4096 × (length (now buf) ≡ 128) ⌝ }
-    ensures { λ t. ⌜ SpeltAs corner k f (now (sa .entry)) (now (sc .entry)) ex ey r (now (buf .exit)) (t .state) (t .at) ⌝ }
+    numbers: &[u64],
+    steps: &mut [u8],
+    ends: &mut [usize],
+) -> Built
+    requires { ⌜ Prepared few k f (now sa) (now sc) (now off) hi m ex ey 4096 × Room (length (now numbers)) (length (now steps)) (length (now ends)) ⌝ }
+    ensures { λ r. ⌜ LinedAs (lined (edgesFor corner k f (now (sa .entry)) (now (sc .entry)) ex ey (now (numbers .entry))) (now (steps .entry)) (now (ends .entry))) r (now (steps .exit)) (now (ends .exit)) ⌝ }
 {
     let mut val = [0u64; 4096];
     spell_in(
@@ -192,8 +303,9 @@ fn spell_4096(
         ex,
         ey,
         corner,
-        r,
-        buf,
+        numbers,
+        steps,
+        ends,
     )
 }
 
@@ -209,11 +321,12 @@ fn spell_5632(
     ex: usize,
     ey: usize,
     corner: bool,
-    r: u64,
-    buf: &mut [u8],
-) -> Spelt
-    requires { ⌜ Prepared few k f (now sa) (now sc) (now off) hi m ex ey 5632 × (length (now buf) ≡ 128) ⌝ }
-    ensures { λ t. ⌜ SpeltAs corner k f (now (sa .entry)) (now (sc .entry)) ex ey r (now (buf .exit)) (t .state) (t .at) ⌝ }
+    numbers: &[u64],
+    steps: &mut [u8],
+    ends: &mut [usize],
+) -> Built
+    requires { ⌜ Prepared few k f (now sa) (now sc) (now off) hi m ex ey 5632 × Room (length (now numbers)) (length (now steps)) (length (now ends)) ⌝ }
+    ensures { λ r. ⌜ LinedAs (lined (edgesFor corner k f (now (sa .entry)) (now (sc .entry)) ex ey (now (numbers .entry))) (now (steps .entry)) (now (ends .entry))) r (now (steps .exit)) (now (ends .exit)) ⌝ }
 {
     let mut val = [0u64; 5632];
     spell_in(
@@ -229,8 +342,9 @@ fn spell_5632(
         ex,
         ey,
         corner,
-        r,
-        buf,
+        numbers,
+        steps,
+        ends,
     )
 }
 
@@ -246,11 +360,12 @@ fn spell_7040(
     ex: usize,
     ey: usize,
     corner: bool,
-    r: u64,
-    buf: &mut [u8],
-) -> Spelt
-    requires { ⌜ Prepared few k f (now sa) (now sc) (now off) hi m ex ey 7040 × (length (now buf) ≡ 128) ⌝ }
-    ensures { λ t. ⌜ SpeltAs corner k f (now (sa .entry)) (now (sc .entry)) ex ey r (now (buf .exit)) (t .state) (t .at) ⌝ }
+    numbers: &[u64],
+    steps: &mut [u8],
+    ends: &mut [usize],
+) -> Built
+    requires { ⌜ Prepared few k f (now sa) (now sc) (now off) hi m ex ey 7040 × Room (length (now numbers)) (length (now steps)) (length (now ends)) ⌝ }
+    ensures { λ r. ⌜ LinedAs (lined (edgesFor corner k f (now (sa .entry)) (now (sc .entry)) ex ey (now (numbers .entry))) (now (steps .entry)) (now (ends .entry))) r (now (steps .exit)) (now (ends .exit)) ⌝ }
 {
     let mut val = [0u64; 7040];
     spell_in(
@@ -266,13 +381,14 @@ fn spell_7040(
         ex,
         ey,
         corner,
-        r,
-        buf,
+        numbers,
+        steps,
+        ends,
     )
 }
 
-// The edge of number r, in a table of the smallest of six sizes that has room.
-pub(crate) fn spell_edge(
+// The edges, over a table of the smallest of six sizes that has room.
+pub(crate) fn spell_edges(
     sa: &[usize; 8],
     sc: &[usize; 8],
     k: usize,
@@ -281,11 +397,12 @@ pub(crate) fn spell_edge(
     ex: usize,
     ey: usize,
     corner: bool,
-    r: u64,
-    buf: &mut [u8],
-) -> Spelt
-    requires { ⌜ Form k f (now sa) (now sc) top ex ey × (length (now buf) ≡ 128) ⌝ }
-    ensures { λ t. ⌜ SpeltAs corner k f (now (sa .entry)) (now (sc .entry)) ex ey r (now (buf .exit)) (t .state) (t .at) ⌝ }
+    numbers: &[u64],
+    steps: &mut [u8],
+    ends: &mut [usize],
+) -> Built
+    requires { ⌜ Form k f (now sa) (now sc) top ex ey × Room (length (now numbers)) (length (now steps)) (length (now ends)) ⌝ }
+    ensures { λ r. ⌜ LinedAs (lined (edgesFor corner k f (now (sa .entry)) (now (sc .entry)) ex ey (now (numbers .entry))) (now (steps .entry)) (now (ends .entry))) r (now (steps .exit)) (now (ends .exit)) ⌝ }
 {
     let hi = steepest(sa, sc, k, f, top, ex, ey);
     let m = deepest(sa, sc, k, f, top, ex, ey);
@@ -294,19 +411,109 @@ pub(crate) fn spell_edge(
     let off = offsets(sa, sc, k, f, top, ex, ey, stride);
     let cells = (ex + 2) * stride;
     if cells <= 1024 {
-        return spell_1024(sa, sc, &off, few, k, f, hi, m, ex, ey, corner, r, buf);
+        return spell_1024(
+            sa,
+            sc,
+            &off,
+            few,
+            k,
+            f,
+            hi,
+            m,
+            ex,
+            ey,
+            corner,
+            numbers,
+            steps,
+            ends,
+        );
     }
     if cells <= 2048 {
-        return spell_2048(sa, sc, &off, few, k, f, hi, m, ex, ey, corner, r, buf);
+        return spell_2048(
+            sa,
+            sc,
+            &off,
+            few,
+            k,
+            f,
+            hi,
+            m,
+            ex,
+            ey,
+            corner,
+            numbers,
+            steps,
+            ends,
+        );
     }
     if cells <= 3072 {
-        return spell_3072(sa, sc, &off, few, k, f, hi, m, ex, ey, corner, r, buf);
+        return spell_3072(
+            sa,
+            sc,
+            &off,
+            few,
+            k,
+            f,
+            hi,
+            m,
+            ex,
+            ey,
+            corner,
+            numbers,
+            steps,
+            ends,
+        );
     }
     if cells <= 4096 {
-        return spell_4096(sa, sc, &off, few, k, f, hi, m, ex, ey, corner, r, buf);
+        return spell_4096(
+            sa,
+            sc,
+            &off,
+            few,
+            k,
+            f,
+            hi,
+            m,
+            ex,
+            ey,
+            corner,
+            numbers,
+            steps,
+            ends,
+        );
     }
     if cells <= 5632 {
-        return spell_5632(sa, sc, &off, few, k, f, hi, m, ex, ey, corner, r, buf);
+        return spell_5632(
+            sa,
+            sc,
+            &off,
+            few,
+            k,
+            f,
+            hi,
+            m,
+            ex,
+            ey,
+            corner,
+            numbers,
+            steps,
+            ends,
+        );
     }
-    spell_7040(sa, sc, &off, few, k, f, hi, m, ex, ey, corner, r, buf)
+    spell_7040(
+        sa,
+        sc,
+        &off,
+        few,
+        k,
+        f,
+        hi,
+        m,
+        ex,
+        ey,
+        corner,
+        numbers,
+        steps,
+        ends,
+    )
 }

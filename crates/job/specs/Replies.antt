@@ -19,27 +19,27 @@ use Rattle.job.specs.declared.Numbered.the-variants.{Number, Refused as 
 use Rattle.job.specs.declared.Built.{Built}
 use Rattle.job.specs.declared.Built.the-variants.{Length, Refused as BuildRefused}
 
-pub data Reply : Type 0 where
-  value : ℕ → Reply
-  refusal : ℕ → Reply
+pub data Reply (A : Type 0) : Type 0 where
+  value : A → Reply A
+  refusal : ℕ → Reply A
 
-abbrev pub reply : Answer ℕ → Reply
+abbrev pub reply : {A : Type 0} → Answer A → Reply A
 reply (accepted a) = value a
 reply (refused r) = refusal (refusalNumber r)
 
-abbrev pub countSays : Counted → Reply
+abbrev pub countSays : Counted → Reply ℕ
 countSays (Count c) = value c
 countSays (CountRefused r) = refusal r
 
-abbrev pub widthSays : Sized → Reply
+abbrev pub widthSays : Sized → Reply ℕ
 widthSays (Width w) = value w
 widthSays (WidthRefused r) = refusal r
 
-abbrev pub numberSays : Numbered → Reply
+abbrev pub numberSays : Numbered → Reply ℕ
 numberSays (Number r) = value r
 numberSays (NumberRefused r) = refusal r
 
-abbrev pub buildSays : Built → Reply
+abbrev pub buildSays : Built → Reply ℕ
 buildSays (Length l) = value l
 buildSays (BuildRefused r) = refusal r
 

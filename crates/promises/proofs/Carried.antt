@@ -40,7 +40,7 @@ use Rattle.job.specs.Replies.Reply.{value, refusal}
 use Rattle.promises.specs.Contracts.{Numbers, Builds, Accepted}
 use Rattle.promises.proofs.One.{numbered-one, says-one}
 
-IsValue : Reply → Type 0
+IsValue : Reply ℕ → Type 0
 IsValue (value v) = Unit {0}
 IsValue (refusal k) = ⊥
 

@@ -26,13 +26,13 @@ use Rattle.job.specs.Replies.Reply.{value, refusal}
 use Rattle.edges.specs.Seen.{Seen, SeenWrite}
 
 -- what can be told from its reply is one
-one-of : {A : Type 0} (says : A → Reply) (back : Reply → A) → ((r : A) → back (says r) ≡ r) → (y : Reply) (r s : A) → says r ≡ y → says s ≡ y → r ≡ s
+one-of : {A : Type 0} (says : A → Reply ℕ) (back : Reply ℕ → A) → ((r : A) → back (says r) ≡ r) → (y : Reply ℕ) (r s : A) → says r ≡ y → says s ≡ y → r ≡ s
 one-of says back h y r s p q = sym (h r) ∙ ap back (p ∙ sym q) ∙ h s
 
-pub counted-one : (y : Reply) (r s : Counted) → countSays r ≡ y → countSays s ≡ y → r ≡ s
+pub counted-one : (y : Reply ℕ) (r s : Counted) → countSays r ≡ y → countSays s ≡ y → r ≡ s
 counted-one = one-of countSays back same
   where
-    back : Reply → Counted
+    back : Reply ℕ → Counted
     back (value c) = Count c
     back (refusal r) = CountRefused r
 
@@ -40,10 +40,10 @@ counted-one = one-of countSays back same
     same (Count c) = refl
     same (CountRefused r) = refl
 
-pub sized-one : (y : Reply) (r s : Sized) → widthSays r ≡ y → widthSays s ≡ y → r ≡ s
+pub sized-one : (y : Reply ℕ) (r s : Sized) → widthSays r ≡ y → widthSays s ≡ y → r ≡ s
 sized-one = one-of widthSays back same
   where
-    back : Reply → Sized
+    back : Reply ℕ → Sized
     back (value w) = Width w
     back (refusal r) = WidthRefused r
 
@@ -51,10 +51,10 @@ sized-one = one-of widthSays back same
     same (Width w) = refl
     same (WidthRefused r) = refl
 
-pub numbered-one : (y : Reply) (r s : Numbered) → numberSays r ≡ y → numberSays s ≡ y → r ≡ s
+pub numbered-one : (y : Reply ℕ) (r s : Numbered) → numberSays r ≡ y → numberSays s ≡ y → r ≡ s
 numbered-one = one-of numberSays back same
   where
-    back : Reply → Numbered
+    back : Reply ℕ → Numbered
     back (value n) = Number n
     back (refusal r) = NumberRefused r
 
@@ -62,10 +62,10 @@ numbered-one = one-of numberSays back same
     same (Number n) = refl
     same (NumberRefused r) = refl
 
-pub says-one : (y : Reply) (r s : Built) → buildSays r ≡ y → buildSays s ≡ y → r ≡ s
+pub says-one : (y : Reply ℕ) (r s : Built) → buildSays r ≡ y → buildSays s ≡ y → r ≡ s
 says-one = one-of buildSays back same
   where
-    back : Reply → Built
+    back : Reply ℕ → Built
     back (value l) = Length l
     back (refusal r) = BuildRefused r
 

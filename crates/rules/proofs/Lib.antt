@@ -11,3 +11,4 @@ pub mod Answering
 pub mod Hence
 pub mod Recurrences
 pub mod Widths
+pub mod PackExamples

@@ -12,3 +12,5 @@ pub mod Blocks
 pub mod Answers
 pub mod Shear
 pub mod Demand
+pub mod Packs
+pub mod Questions

@@ -1,40 +1,63 @@
--- `calls::build` meets its contract: the crate of the block's family answers. Assumes nothing.
-use mathlib.Core.Path.{_≡_, refl, sym, ap, _∙_}
-use Rattle.calls.proofs.Routes.{written-arch, written-grid}
+-- `calls::build` meets its contract: the edge of a list of one, put to the output. Assumes nothing.
+use mathlib.Core.Path.{sym}
+use Prim.Native.Nat.{ℕ}
+use native.Mathlib.Omega.{arith}
+use lib.ListN.{replicate, length-replicate}
+use lib.Seq.{length-take-le}
+use Rattle.calls.proofs.Ones.{one-built, one-put, one-refused}
 use borrow.Author.Needs.{needs}
 use Rattle.calls.proofs.build.Statement.{statement}
 use Rattle.calls.proofs.build.Tie as tie
-use Rattle.grid.proofs.build.Reads as build-reads′
 
-is-square-requires : tie.Need-is-square-requires
-is-square-requires c κs = search needs
+slice-aggregate-build-all : tie.Need-slice-aggregate-build-all
+slice-aggregate-build-all c = search needs
 
-build-requires : tie.Need-build-requires
-build-requires c κs = search needs
+slice-aggregate-build-all-2 : tie.Need-slice-aggregate-build-all-2
+slice-aggregate-build-all-2 c = search needs
+
+slice-aggregate-build-all-3 : tie.Need-slice-aggregate-build-all-3
+slice-aggregate-build-all-3 c = search needs
+
+build-all-requires : tie.Need-build-all-requires
+build-all-requires c κs = search needs
+
+enum-known-n : tie.Need-enum-known-n
+enum-known-n c = search needs
+
+array-share-prefix-steps : tie.Need-array-share-prefix-steps
+array-share-prefix-steps c = one-built (c .before .before .before .before .before .before .before .before .before .before .before .args .block .now) (c .before .before .before .before .before .before .before .before .before .before .before .args .number) (replicate 128 0) (replicate 1 0) (omega (arith, length-replicate {A = ℕ} 128 0)) (omega (arith, length-replicate {A = ℕ} 1 0)) _ _ _ _ (c .before .n .given .1) (c .before .before .before .before .before .build-all .ensures) .fits
+
+slice-aggregate-put : tie.Need-slice-aggregate-put
+slice-aggregate-put c = sym (length-take-le _ _ (one-built (c .before .before .before .before .before .before .before .before .before .before .before .before .args .block .now) (c .before .before .before .before .before .before .before .before .before .before .before .before .args .number) (replicate 128 0) (replicate 1 0) (omega (arith, length-replicate {A = ℕ} 128 0)) (omega (arith, length-replicate {A = ℕ} 1 0)) _ _ _ _ (c .before .before .n .given .1) (c .before .before .before .before .before .before .build-all .ensures) .fits))
+
+put-requires : tie.Need-put-requires
+put-requires c κs = search needs
+
+enum-known-r : tie.Need-enum-known-r
+enum-known-r c = search needs
 
 same-length : tie.Need-same-length
 same-length c = search needs
 
 returns : tie.Need-returns
-returns c = written-arch (c .before .before .before .before .before .before .before .before .args .block .now) _ _ _ _ (sym (c .before .before .before .before .before .is-square .ensures) ∙ c .before .before .before .before .if1 .taken) (c .before .before .build .ensures)
-
-build-requires-2 : tie.Need-build-requires-2
-build-requires-2 c κs = search needs
-
-same-length-2 : tie.Need-same-length-2
-same-length-2 c = search needs
+returns c = one-put (c .before .before .before .before .before .before .before .before .before .before .before .before .before .before .before .before .args .block .now) (c .before .before .before .before .before .before .before .before .before .before .before .before .before .before .before .before .args .number) (replicate 128 0) (replicate 1 0) (omega (arith, length-replicate {A = ℕ} 128 0)) (omega (arith, length-replicate {A = ℕ} 1 0)) _ _ _ _ (c .before .before .before .before .before .before .n .given .1) (c .before .before .before .before .before .before .before .before .before .before .build-all .ensures) _ _ _ (c .before .before .put .ensures)
 
 returns-2 : tie.Need-returns-2
-returns-2 c = written-grid (c .before .before .before .before .before .before .before .before .args .block .now) _ _ _ _ (sym (c .before .before .before .before .before .is-square .ensures) ∙ c .before .before .before .before .if1 .left) (c .before .before .build2 .ensures)
+returns-2 c = one-refused (c .before .before .before .before .before .before .before .before .before .before .before .args .block .now) (c .before .before .before .before .before .before .before .before .before .before .before .args .number) (replicate 128 0) (replicate 1 0) (omega (arith, length-replicate {A = ℕ} 128 0)) (omega (arith, length-replicate {A = ℕ} 1 0)) _ _ _ _ _ (c .before .r .given .1) (c .before .before .before .before .before .build-all .ensures)
 
 pub build-spec : {M : Type 1} → statement M
 build-spec =
     tie.close
     (tie.spec
-    is-square-requires
-    build-requires
+    slice-aggregate-build-all
+    slice-aggregate-build-all-2
+    slice-aggregate-build-all-3
+    build-all-requires
+    enum-known-n
+    array-share-prefix-steps
+    slice-aggregate-put
+    put-requires
+    enum-known-r
     same-length
     returns
-    build-requires-2
-    same-length-2
     returns-2)

@@ -16,31 +16,31 @@ abbrev μ-loop : tie.MeasureT-loop
 
 add-p : tie.Need-add-p Inv-loop μ-loop
 add-p c =
-    let q = c .before .before .pre .ready .sizes in let h = end-cells (c .before .before .pre .ready) in omega arith
+    let q = c .before .before .pre .0 .ready .sizes in let h = end-cells (c .before .before .pre .0 .ready) in omega arith
 
 add-p-2 : tie.Need-add-p-2 Inv-loop μ-loop
 add-p-2 c =
-    let q = c .before .before .pre .ready .sizes in let h = end-cells (c .before .before .pre .ready) in omega arith
+    let q = c .before .before .pre .0 .ready .sizes in let h = end-cells (c .before .before .pre .0 .ready) in omega arith
 
 add-p-3 : tie.Need-add-p-3 Inv-loop μ-loop
 add-p-3 c =
-    let q = c .before .before .pre .ready .sizes in let h = end-cells (c .before .before .pre .ready) in omega arith
+    let q = c .before .before .pre .0 .ready .sizes in let h = end-cells (c .before .before .pre .0 .ready) in omega arith
 
 mul-p : tie.Need-mul-p Inv-loop μ-loop
 mul-p c =
-    let q = c .before .before .pre .ready .sizes in let h = end-cells (c .before .before .pre .ready) in omega arith
+    let q = c .before .before .pre .0 .ready .sizes in let h = end-cells (c .before .before .pre .0 .ready) in omega arith
 
 add-p-4 : tie.Need-add-p-4 Inv-loop μ-loop
 add-p-4 c =
-    let q = c .before .before .pre .ready .sizes in let h = end-cells (c .before .before .pre .ready) in omega arith
+    let q = c .before .before .pre .0 .ready .sizes in let h = end-cells (c .before .before .pre .0 .ready) in omega arith
 
 add-p-5 : tie.Need-add-p-5 Inv-loop μ-loop
 add-p-5 c =
-    let q = c .before .before .pre .ready .sizes in let h = end-cells (c .before .before .pre .ready) in omega arith
+    let q = c .before .before .pre .0 .ready .sizes in let h = end-cells (c .before .before .pre .0 .ready) in omega arith
 
 loop-holds : tie.Need-loop-holds Inv-loop μ-loop
 loop-holds c =
-    (refl, writing-start (c .before .before .pre) _ (omega arith))
+    (refl, writing-start (c .before .before .pre .0) (c .before .before .pre .1) _ (omega arith))
 
 seek-requires : tie.Need-seek-requires Inv-loop μ-loop
 seek-requires c κs =

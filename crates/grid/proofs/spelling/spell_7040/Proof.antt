@@ -8,14 +8,18 @@ slice-aggregate-spell-in : tie.Need-slice-aggregate-spell-in
 slice-aggregate-spell-in c = search needs
 
 spell-in-requires : tie.Need-spell-in-requires
-spell-in-requires c κs = (record { ready = c .before .before .before .pre .0; zero-at = zeros 7040 }, c .before .before .before .pre .1)
+spell-in-requires c κs = (record { ready = c .before .before .before .before .before .before .pre .0; zero-at = zeros 7040 }, c .before .before .before .before .before .before .pre .1)
 
 same-length : tie.Need-same-length
 same-length c = search needs
+
+same-length-2 : tie.Need-same-length-2
+same-length-2 c = search needs
 
 returns : tie.Need-returns
 returns c = search needs
 
 pub spell-7040-spec : {M : Type 1} → statement M
 spell-7040-spec =
-    tie.close (tie.spec slice-aggregate-spell-in spell-in-requires same-length returns)
+    tie.close
+    (tie.spec slice-aggregate-spell-in spell-in-requires same-length same-length-2 returns)

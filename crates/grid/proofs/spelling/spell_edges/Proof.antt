@@ -1,0 +1,139 @@
+-- `grid::spelling::spell_edges` meets its contract: the smallest size that has room is prepared. Assumes nothing.
+use native.Mathlib.Omega.{arith}
+use Rattle.grid.proofs.Prepare.{cells-le, prepared}
+use borrow.Author.Needs.{needs}
+use Rattle.grid.proofs.spelling.spell_edges.Statement.{statement}
+use Rattle.grid.proofs.spelling.spell_edges.Tie as tie
+
+steepest-requires : tie.Need-steepest-requires
+steepest-requires c κs = search needs
+
+deepest-requires : tie.Need-deepest-requires
+deepest-requires c κs = search needs
+
+is-few-requires : tie.Need-is-few-requires
+is-few-requires c κs = search needs
+
+add-stride : tie.Need-add-stride
+add-stride c = search needs
+
+add-stride-2 : tie.Need-add-stride-2
+add-stride-2 c = search needs
+
+offsets-requires : tie.Need-offsets-requires
+offsets-requires c κs = search needs
+
+add-cells : tie.Need-add-cells
+add-cells c = search needs
+
+mul-cells : tie.Need-mul-cells
+mul-cells c = let h = (cells-le (c .before .before .before .before .before .before .before .pre .0) (c .before .before .before .steepest .ensures) (c .before .before .deepest .ensures)) in omega arith
+
+spell-1024-requires : tie.Need-spell-1024-requires
+spell-1024-requires c κs = (prepared (c .before .before .before .before .before .before .before .before .before .before .before .pre .0) (c .before .before .before .before .before .before .before .steepest .ensures) (c .before .before .before .before .before .before .deepest .ensures) (c .before .before .before .before .before .is-few .ensures) (c .before .before .before .before .offsets .ensures) 1024 (c .before .before .before .if1 .taken), c .before .before .before .before .before .before .before .before .before .before .before .pre .1)
+
+same-length : tie.Need-same-length
+same-length c = search needs
+
+same-length-2 : tie.Need-same-length-2
+same-length-2 c = search needs
+
+returns : tie.Need-returns
+returns c = search needs
+
+spell-2048-requires : tie.Need-spell-2048-requires
+spell-2048-requires c κs = (prepared (c .before .before .before .before .before .before .before .before .before .before .before .before .pre .0) (c .before .before .before .before .before .before .before .before .steepest .ensures) (c .before .before .before .before .before .before .before .deepest .ensures) (c .before .before .before .before .before .before .is-few .ensures) (c .before .before .before .before .before .offsets .ensures) 2048 (c .before .before .before .if2 .taken), c .before .before .before .before .before .before .before .before .before .before .before .before .pre .1)
+
+same-length-3 : tie.Need-same-length-3
+same-length-3 c = search needs
+
+same-length-4 : tie.Need-same-length-4
+same-length-4 c = search needs
+
+returns-2 : tie.Need-returns-2
+returns-2 c = search needs
+
+spell-3072-requires : tie.Need-spell-3072-requires
+spell-3072-requires c κs = (prepared (c .before .before .before .before .before .before .before .before .before .before .before .before .before .pre .0) (c .before .before .before .before .before .before .before .before .before .steepest .ensures) (c .before .before .before .before .before .before .before .before .deepest .ensures) (c .before .before .before .before .before .before .before .is-few .ensures) (c .before .before .before .before .before .before .offsets .ensures) 3072 (c .before .before .before .if3 .taken), c .before .before .before .before .before .before .before .before .before .before .before .before .before .pre .1)
+
+same-length-5 : tie.Need-same-length-5
+same-length-5 c = search needs
+
+same-length-6 : tie.Need-same-length-6
+same-length-6 c = search needs
+
+returns-3 : tie.Need-returns-3
+returns-3 c = search needs
+
+spell-4096-requires : tie.Need-spell-4096-requires
+spell-4096-requires c κs = (prepared (c .before .before .before .before .before .before .before .before .before .before .before .before .before .before .pre .0) (c .before .before .before .before .before .before .before .before .before .before .steepest .ensures) (c .before .before .before .before .before .before .before .before .before .deepest .ensures) (c .before .before .before .before .before .before .before .before .is-few .ensures) (c .before .before .before .before .before .before .before .offsets .ensures) 4096 (c .before .before .before .if4 .taken), c .before .before .before .before .before .before .before .before .before .before .before .before .before .before .pre .1)
+
+same-length-7 : tie.Need-same-length-7
+same-length-7 c = search needs
+
+same-length-8 : tie.Need-same-length-8
+same-length-8 c = search needs
+
+returns-4 : tie.Need-returns-4
+returns-4 c = search needs
+
+spell-5632-requires : tie.Need-spell-5632-requires
+spell-5632-requires c κs = (prepared (c .before .before .before .before .before .before .before .before .before .before .before .before .before .before .before .pre .0) (c .before .before .before .before .before .before .before .before .before .before .before .steepest .ensures) (c .before .before .before .before .before .before .before .before .before .before .deepest .ensures) (c .before .before .before .before .before .before .before .before .before .is-few .ensures) (c .before .before .before .before .before .before .before .before .offsets .ensures) 5632 (c .before .before .before .if5 .taken), c .before .before .before .before .before .before .before .before .before .before .before .before .before .before .before .pre .1)
+
+same-length-9 : tie.Need-same-length-9
+same-length-9 c = search needs
+
+same-length-10 : tie.Need-same-length-10
+same-length-10 c = search needs
+
+returns-5 : tie.Need-returns-5
+returns-5 c = search needs
+
+spell-7040-requires : tie.Need-spell-7040-requires
+spell-7040-requires c κs = (prepared (c .before .before .before .before .before .before .before .before .before .before .before .before .before .before .before .pre .0) (c .before .before .before .before .before .before .before .before .before .before .before .steepest .ensures) (c .before .before .before .before .before .before .before .before .before .before .deepest .ensures) (c .before .before .before .before .before .before .before .before .before .is-few .ensures) (c .before .before .before .before .before .before .before .before .offsets .ensures) 7040 (let h = (cells-le (c .before .before .before .before .before .before .before .before .before .before .before .before .before .before .before .pre .0) (c .before .before .before .before .before .before .before .before .before .before .before .steepest .ensures) (c .before .before .before .before .before .before .before .before .before .before .deepest .ensures)) in omega arith), c .before .before .before .before .before .before .before .before .before .before .before .before .before .before .before .pre .1)
+
+same-length-11 : tie.Need-same-length-11
+same-length-11 c = search needs
+
+same-length-12 : tie.Need-same-length-12
+same-length-12 c = search needs
+
+returns-6 : tie.Need-returns-6
+returns-6 c = search needs
+
+pub spell-edges-spec : {M : Type 1} → statement M
+spell-edges-spec =
+    tie.close
+    (tie.spec
+    steepest-requires
+    deepest-requires
+    is-few-requires
+    add-stride
+    add-stride-2
+    offsets-requires
+    add-cells
+    mul-cells
+    spell-1024-requires
+    same-length
+    same-length-2
+    returns
+    spell-2048-requires
+    same-length-3
+    same-length-4
+    returns-2
+    spell-3072-requires
+    same-length-5
+    same-length-6
+    returns-3
+    spell-4096-requires
+    same-length-7
+    same-length-8
+    returns-4
+    spell-5632-requires
+    same-length-9
+    same-length-10
+    returns-5
+    spell-7040-requires
+    same-length-11
+    same-length-12
+    returns-6)
