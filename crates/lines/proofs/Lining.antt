@@ -100,7 +100,7 @@ map-next : (g : ℕ → List ℕ) (ns : List ℕ) (i : ℕ) → i < length ns �
 map-next g ns i l =
     ap (λ (k : ℕ). map g (take k ns)) (add-one i) ∙ ap (map g) (take-suc ns i 0 l) ∙ map-snoc g (take i ns) (getD ns i 0)
 
-length-ends : (at : ℕ) (es : List (List ℕ)) → length (endsFrom at es) ≡ length es
+pub length-ends : (at : ℕ) (es : List (List ℕ)) → length (endsFrom at es) ≡ length es
 unfolding endsFrom
 length-ends at [] = refl
 length-ends at (e ∷ es) = ap suc (length-ends (at + length e) es)

@@ -12,3 +12,7 @@ pub mod Hence
 pub mod Recurrences
 pub mod Widths
 pub mod PackExamples
+pub mod Earlier
+pub mod Lengths
+pub mod PackLaws
+pub mod Packed

@@ -1,0 +1,6 @@
+pub mod Layouts
+pub mod Listed
+pub mod Searches
+pub mod Knowing
+pub mod Reading
+pub mod Walking

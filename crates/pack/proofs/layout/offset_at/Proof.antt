@@ -1,0 +1,21 @@
+-- `layout::offset_at` meets its contract. Assumes nothing.
+use mathlib.Core.Path.{_∙_}
+use Rattle.pack.proofs.Layouts.{offset-is}
+use borrow.Author.Needs.{needs}
+use Rattle.pack.proofs.layout.offset_at.Statement.{statement}
+use Rattle.pack.proofs.layout.offset_at.Tie as tie
+
+mul-word-at : tie.Need-mul-word-at
+mul-word-at c = search needs
+
+add-word-at : tie.Need-add-word-at
+add-word-at c = search needs
+
+word-at-requires : tie.Need-word-at-requires
+word-at-requires c κs = search needs
+
+returns : tie.Need-returns
+returns c = c .word-at .ensures .0 ∙ offset-is _ _
+
+pub offset-at-spec : {M : Type 1} → statement M
+offset-at-spec = tie.close (tie.spec mul-word-at add-word-at word-at-requires returns)

@@ -1,0 +1,93 @@
+-- `twice::first_repeat` meets its contract: no edge passed equals an earlier one, nor the later edge any earlier one passed. Assumes nothing.
+use Prim.Native.Nat.{_≤_, _<_, _-_}
+use mathlib.Core.Path.{_≡_, refl, sym, ap, _∙_}
+use mathlib.Core.Logic.{⊎-elim}
+use native.Mathlib.Omega.{arith}
+use borrow.Author.Needs.{needs}
+use lib.ListN.{length}
+use Rattle.howmany.specs.Least.{least}
+use Rattle.rules.specs.Packs.{edgesFrom}
+use Rattle.rules.specs.Questions.{equals, twiceIn}
+use Rattle.job.specs.Replies.Reply.{value}
+use Rattle.pack.proofs.Listed.{edges-length, equals-is}
+use Rattle.pack.proofs.Searches.{least-more, repeats, alone, twice-at, twice-none}
+use Rattle.pack.proofs.twice.first_repeat.Statement.{statement}
+use Rattle.pack.proofs.twice.first_repeat.Tie as tie
+
+abbrev Inv-loop : tie.InvT-loop
+Inv-loop pack c later earlier₀ earlier = (earlier ≤ later) × (least (equals (edgesFrom pack 0 c) later) earlier ≡ earlier)
+
+abbrev μ-loop : tie.MeasureT-loop
+μ-loop pack c later earlier₀ earlier = later - earlier
+
+abbrev Inv-search : tie.InvT-search
+Inv-search pack c later₀ earlier₀ later earlier = (later ≤ c) × (least (repeats (edgesFrom pack 0 c)) later ≡ later)
+
+abbrev μ-search : tie.MeasureT-search
+μ-search pack c later₀ earlier₀ later earlier = c - later
+
+edge-count-requires : tie.Need-edge-count-requires Inv-loop μ-loop Inv-search μ-search
+edge-count-requires c κs = c .before .pre .least
+
+search-holds : tie.Need-search-holds Inv-loop μ-loop Inv-search μ-search
+unfolding least
+search-holds c = (omega arith, refl)
+
+loop-holds : tie.Need-loop-holds Inv-loop μ-loop Inv-search μ-search
+unfolding least
+loop-holds c = (omega arith, refl)
+
+are-equal-requires : tie.Need-are-equal-requires Inv-loop μ-loop Inv-search μ-search
+are-equal-requires c κs = (c .before .before .before .before .before .before .pre .edge (c .before .before .before .search .later) (omega (arith, c .before .before .before .before .edge-count .ensures .0, c .before .before .search-test .taken)), c .before .before .before .before .before .before .pre .edge (c .before .loop .earlier) (omega (arith, c .before .before .before .before .edge-count .ensures .0, c .before .before .search-test .taken)))
+
+add-earlier : tie.Need-add-earlier Inv-loop μ-loop Inv-search μ-search
+add-earlier c = search needs
+
+loop-less : tie.Need-loop-less Inv-loop μ-loop Inv-search μ-search
+loop-less c = search needs
+
+loop-again : tie.Need-loop-again Inv-loop μ-loop Inv-search μ-search
+loop-again c = (search needs, least-more _ _ (c .before .before .before .loop .inv .1) (equals-is _ _ _ _ (c .before .before .before .before .search-test .taken) (omega arith) ∙ sym (c .before .are-equal .ensures) ∙ c .if1 .left))
+
+add-later : tie.Need-add-later Inv-loop μ-loop Inv-search μ-search
+add-later c = search needs
+
+search-less : tie.Need-search-less Inv-loop μ-loop Inv-search μ-search
+search-less c = search needs
+
+search-again : tie.Need-search-again Inv-loop μ-loop Inv-search μ-search
+search-again c = (search needs, least-more _ _ (c .before .before .before .search .inv .1) (alone _ _ _ (omega arith) (c .before .loop .inv .1)))
+
+returns : tie.Need-returns Inv-loop μ-loop Inv-search μ-search
+returns c =
+    ⊎-elim
+    (λ w. absurd (omega (arith, w .0 .left)))
+    (λ w.
+    let l : w .1 .earlier < c .before .before .before .edge-count .result = omega (arith, w .2 .taken, c .if2 .taken) in
+    let h : c .before .before .search .later < length (edgesFrom (c .before .before .before .before .before .args .pack .now) 0 (c .before .before .before .edge-count .result)) = omega (arith, edges-length (c .before .before .before .before .before .args .pack .now) 0 (c .before .before .before .edge-count .result), c .if2 .taken) in
+    rw (w .5) (ap value (sym (twice-at _ _ _ (c .before .before .search .inv .1) (w .1 .inv .1) (equals-is _ _ _ _ (c .if2 .taken) l ∙ sym (w .3 .ensures) ∙ w .4 .taken) (w .2 .taken) h)) ∙ ap (λ n. value (twiceIn (edgesFrom (c .before .before .before .before .before .args .pack .now) 0 n))) (c .before .before .before .edge-count .ensures .0)))
+    (c .before .search-test .came)
+
+returns-2 : tie.Need-returns-2 Inv-loop μ-loop Inv-search μ-search
+returns-2 c = ap value (sym (twice-none _ _ (omega (arith, edges-length (c .before .before .before .before .before .args .pack .now) 0 (c .before .before .before .edge-count .result), c .if2 .left, c .before .before .search .inv .0)) (c .before .before .search .inv .1))) ∙ ap (λ n. value (twiceIn (edgesFrom (c .before .before .before .before .before .args .pack .now) 0 n))) (c .before .before .before .edge-count .ensures .0)
+
+pub first-repeat-spec : {M : Type 1} → statement M
+first-repeat-spec =
+    tie.close
+    (tie.spec
+    Inv-loop
+    μ-loop
+    Inv-search
+    μ-search
+    edge-count-requires
+    search-holds
+    loop-holds
+    are-equal-requires
+    add-earlier
+    loop-less
+    loop-again
+    add-later
+    search-less
+    search-again
+    returns
+    returns-2)

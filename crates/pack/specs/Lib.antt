@@ -1,0 +1,5 @@
+pub mod Layout
+pub mod Parts
+pub mod Replies
+pub mod Validity
+pub mod Walks

@@ -1,0 +1,57 @@
+-- A pack from its parts, and what is put to a lent output.
+--
+--   pasted out at s        the bytes s in out, from place `at` on
+--   frontOf block c        the mark, the block, c and the first offset
+--   offsetsOf first ends   the other offsets, where the first edge begins at `first`
+--   packFrom block ends steps    the pack of the edges whose steps these are, and which end there
+--   Packed, Headed, Places       what the functions that put them ask
+--   TooMany b r            the answer to more numbers than a pack holds
+use mathlib.Core.Path.{_≡_}
+use mathlib.Core.List.{List, [], _∷_, _++_}
+use Prim.Native.Nat.{ℕ, _+_, _*_, _≤_, _<_}
+use lib.ListN.{length, getD, take, drop}
+use Rattle.rules.specs.Refusals.{Answer, andThen}
+use Rattle.rules.specs.Refusals.Refusal.{many}
+use Rattle.rules.specs.Refusals.Answer.{refused}
+use Rattle.rules.specs.Answers.{knownJob}
+use Rattle.rules.specs.Packs.{mark, two}
+use Rattle.job.specs.declared.Built.{Built}
+use Rattle.job.specs.Replies.{reply, buildSays}
+
+abbrev pub pasted : List ℕ → ℕ → List ℕ → List ℕ
+pasted out at s = take at out ++ (s ++ drop (at + length s) out)
+
+abbrev pub frontOf : List ℕ → ℕ → List ℕ
+frontOf block c = mark ++ (block ++ (two c ++ two (28 + 2 * c)))
+
+unfoldable pub offsetsOf : ℕ → List ℕ → List ℕ
+offsetsOf first [] = []
+offsetsOf first (e ∷ ends) = two (first + e) ++ offsetsOf first ends
+
+unfoldable pub packFrom : List ℕ → List ℕ → List ℕ → List ℕ
+unfolding offsetsOf
+packFrom block ends steps = frontOf block (length ends) ++ (offsetsOf (28 + 2 * length ends) ends ++ steps)
+
+pub record Packed (block ends steps : List ℕ) : Type 0 where
+  pub twenty : length block ≡ 20
+  pub few : length ends ≤ 200
+  pub short : length steps ≤ 25600
+  pub within : (i : ℕ) → i < length ends → getD ends i 0 ≤ 25600
+
+pub record Headed (out block : List ℕ) (c : ℕ) : Type 0 where
+  pub room : 28 ≤ length out
+  pub twenty : length block ≡ 20
+  pub few : c ≤ 200
+
+pub record Places (out : List ℕ) (first : ℕ) (ends : List ℕ) : Type 0 where
+  pub room : 28 + 2 * length ends ≤ length out
+  pub few : length ends ≤ 200
+  pub low : first ≤ 428
+  pub within : (i : ℕ) → i < length ends → getD ends i 0 ≤ 25600
+
+-- "10 Many", after 1 to 4
+abbrev pub tooMany : List ℕ → Answer ℕ
+tooMany b = andThen (knownJob b) (λ J. refused many)
+
+abbrev pub TooMany : List ℕ → Built → Type 0
+TooMany b r = buildSays r ≡ reply (tooMany b)

@@ -1,0 +1,318 @@
+-- Dips: the loop that looks for the first rise after a fall, and the refusals before it. Assumes nothing.
+--
+--   falls-is, rises-is     the tests of a slope on the raised byte
+--   found-next             whether a search up to n + 1 finds something
+--   not-fallen, not-rising    where the loop goes on
+--   lettered, slopes       the bytes of a valid edge of family 6 or 7 are digits of its steps
+--   Looking, looking-start, looking-more, dips-at, dips-never    the loop of `first_rise`
+--   kind-refused, kind-value                        the reply to a dip of families 1 to 5
+--   dip-told, dip-kind, dip-refused, dip-digits, dip-value    the reply to a dip
+use mathlib.Core.Path.{_≡_, refl, sym, ap, ap₂, _∙_, subst}
+use mathlib.Core.Bool.{Bool, true, false, _&&_, _||_, and-false}
+use mathlib.Core.List.{List, [], _∷_}
+use mathlib.Core.Option.{Option}
+use Prim.Native.Nat.{ℕ, zero, suc, _+_, _-_, _≤_, _<_}
+use native.Mathlib.Numerals.{add-one}
+use native.Mathlib.Nat.{not-suc-le-zero, le-of-suc-le-suc}
+use native.Mathlib.Decide.{decLe}
+use native.Mathlib.Omega.{arith}
+use lib.Dec.{T, leb, ltb, ltb→lt}
+use lib.IntN.{ℤ, pos, negsuc}
+use lib.ListN.{length, getD}
+use borrow.Author.Tests.{lt-ltb, le-ltb, le-leb, lt-leb, ltb-true}
+use Rattle.howmany.specs.Choose.{pick, onlyIf}
+use Rattle.howmany.specs.Least.{least}
+use Rattle.howmany.proofs.Choices.{and-left, and-right}
+use Rattle.howmany.proofs.Leasts.{least-on, least-at}
+use Rattle.rules.specs.Points.{Point, origin, moved, leℤ}
+use Rattle.rules.specs.Jobs as rules
+use Rattle.rules.specs.Jobs.{Pair, one, stepsOf, stays}
+use Rattle.rules.specs.Jobs.Job.{directed}
+use Rattle.rules.specs.Valid.{place, at, walks}
+use Rattle.rules.specs.Counts.{countOf}
+use Rattle.rules.specs.Numbers.{numberOf}
+use Rattle.rules.specs.Shear.{Is}
+use Rattle.rules.specs.Refusals.{Answer, check, andThen, refusalNumber}
+use Rattle.rules.specs.Refusals.Refusal.{over, not-an-edge, kind}
+use Rattle.rules.specs.Refusals.Answer.{accepted, refused}
+use Rattle.rules.specs.Blocks.{jobAnswer}
+use Rattle.rules.specs.Answers.{most, knownJob, countAnswer, numberAnswer}
+use Rattle.rules.specs.Questions.{slope, fallen, dipOf, isDirected, dipAnswer}
+use Rattle.rules.proofs.Letters.{place-letter}
+use Rattle.rules.proofs.Slopes.{numbered-length, digit-at}
+use Rattle.rules.proofs.Answering.{number-fitted}
+use Rattle.job.specs.declared.Job.{Job}
+use Rattle.job.specs.Stands.{Directed, Stands}
+use Rattle.job.specs.Stands.Stands.{as-north-east, as-dyck, as-delannoy, as-schroder, as-motzkin, as-open, as-fenced}
+use Rattle.job.specs.Replies.{reply}
+use Rattle.job.specs.Replies.Reply.{value, refusal}
+use Rattle.job.proofs.Standing.{Kept, Told}
+use Rattle.questions.specs.declared.Dips.{Dips}
+use Rattle.questions.specs.declared.Dips.the-variants.{At, Never}
+use Rattle.questions.specs.Replies.{dipSays, kindAnswer}
+use Rattle.questions.specs.Steps.{Slopes, Digits, DipsAs}
+use Rattle.questions.proofs.Comparing.{apart, carried}
+
+-- ---- slopes on raised bytes
+
+pub falls-is : (z : ℤ) (p : ℕ) → Is z p 128 → leℤ z (negsuc 0) ≡ ltb p 128
+falls-is (pos a) p h = sym (le-ltb p 128 (omega arith))
+falls-is (negsuc a) p h = le-leb 0 a (omega arith) ∙ sym (lt-ltb p 128 (omega arith))
+
+pub rises-is : (z : ℤ) (p : ℕ) → Is z p 128 → leℤ (pos 1) z ≡ ltb 128 p
+rises-is (pos a) p h = go (decLe 1 a)
+  where
+    go : Dec (1 ≤ a) → leb 1 a ≡ ltb 128 p
+    go (yes l) = le-leb 1 a l ∙ sym (lt-ltb 128 p (omega arith))
+    go (no l) = lt-leb 1 a (omega arith) ∙ sym (le-ltb 128 p (omega arith))
+rises-is (negsuc a) p h = sym (le-ltb 128 p (omega arith))
+
+-- ---- the bytes of a valid edge
+
+lettered : (J : rules.Job) (e : List ℕ) (p : Point) → T (walks J p e) → (i : ℕ) → i < length e → place (getD e i 0) (stepsOf J) < length (stepsOf J)
+unfolding walks
+lettered J [] p t i l = absurd (not-suc-le-zero l)
+lettered J (b ∷ e) p t zero l =
+    let s = at (stepsOf J) (place b (stepsOf J)) in
+    ltb→lt (place b (stepsOf J)) (length (stepsOf J)) (and-left (ltb (place b (stepsOf J)) (length (stepsOf J))) (stays J (moved p s) && walks J (moved p s) e) t)
+lettered J (b ∷ e) p t (suc i) l =
+    let s = at (stepsOf J) (place b (stepsOf J)) in
+    let u = and-right (ltb (place b (stepsOf J)) (length (stepsOf J))) (stays J (moved p s) && walks J (moved p s) e) t in
+    lettered J e (moved p s) (and-right (stays J (moved p s)) (walks J (moved p s) e) u) i (le-of-suc-le-suc l)
+
+module _ (j : Job) (fenced : Bool) (m : ℤ) (pairs : List Pair) (d : Directed j m pairs) (e : List ℕ) where
+  abbrev J : rules.Job
+  J = directed fenced (j .n) m pairs
+
+  module _ (t : T (walks J origin e)) (i : ℕ) (l : i < length e) where
+    abbrev here : ℕ
+    here = place (getD e i 0) (stepsOf J)
+
+    known : here < length pairs
+    known = omega (arith, lettered J e origin t i l, numbered-length one pairs)
+
+    digit-is : getD e i 0 ≡ one + here
+    digit-is = sym (place-letter (getD e i 0) (stepsOf J) (lettered J e origin t i l)) ∙ digit-at one pairs here known .letter
+
+    place-is : here ≡ getD e i 0 - one
+    place-is = omega (arith, digit-is)
+
+    adds : Is (slope J e i) (getD (j .b) (getD e i 0 - one) 0) 128
+    adds =
+        subst (λ (q : ℕ). Is (slope J e i) (getD (j .b) q 0) 128) place-is
+        (subst (λ (z : ℤ). Is z (getD (j .b) here 0) 128) (sym (digit-at one pairs here known .up)) (d .b-is here (omega (arith, known, d .many))))
+
+  directed-slopes : T (walks J origin e) → Slopes (j .b) e J
+  directed-slopes t = record {
+    least = λ i l. omega (arith, digit-is t i l);
+    most = λ i l. omega (arith, place-is t i l, known t i l, d .many, d .few);
+    adds = adds t;
+  }
+
+pub slopes : {j : Job} {J : rules.Job} → Stands j J → (e : List ℕ) → 5 < j .family → walks J origin e ≡ true → Slopes (j .b) e J
+slopes {j} (as-north-east q v) e f t = absurd (omega arith)
+slopes {j} (as-dyck q v) e f t = absurd (omega arith)
+slopes {j} (as-delannoy q v) e f t = absurd (omega arith)
+slopes {j} (as-schroder q v) e f t = absurd (omega arith)
+slopes {j} (as-motzkin q v) e f t = absurd (omega arith)
+slopes {j} (as-open {m} {pairs} q v) e f t = directed-slopes j false m pairs v e (subst T (sym t) tt)
+slopes {j} (as-fenced {m} {pairs} q v) e f t = directed-slopes j true m pairs v e (subst T (sym t) tt)
+
+-- ---- the loop of `first_rise`
+
+pub found-next : (f : ℕ → Bool) (n : ℕ) → ltb (least f (suc n)) (suc n) ≡ f n || ltb (least f n) n
+unfolding least
+found-next f n = go (ltb (least f n) n) refl (f n)
+  where
+    go : (t : Bool) → ltb (least f n) n ≡ t → (u : Bool) → ltb (pick t (least f n) (pick u n (suc n))) (suc n) ≡ u || t
+    go true e true = lt-ltb (least f n) (suc n) (omega (arith, ltb-true (least f n) n e))
+    go true e false = lt-ltb (least f n) (suc n) (omega (arith, ltb-true (least f n) n e))
+    go false e true = lt-ltb n (suc n) (omega arith)
+    go false e false = le-ltb (suc n) (suc n) (omega arith)
+
+-- where the loop goes on: nothing has fallen yet, or the step doesn't rise
+pub not-fallen : (up : ℕ) {down : Bool} → down ≡ false → ltb 128 up && down ≡ false
+not-fallen up q = ap (λ (d : Bool). ltb 128 up && d) q ∙ and-false (ltb 128 up)
+
+pub not-rising : {up : ℕ} (down : Bool) → up ≤ 128 → ltb 128 up && down ≡ false
+not-rising {up} down l = ap (λ (t : Bool). t && down) (le-ltb 128 up l)
+
+-- a step of e that rises after one that falls
+abbrev pub dips : rules.Job → List ℕ → ℕ → Bool
+dips J e i = leℤ (pos 1) (slope J e i) && fallen J e i
+
+fallen-next : (J : rules.Job) (e : List ℕ) (i : ℕ) → fallen J e (suc i) ≡ leℤ (slope J e i) (negsuc 0) || fallen J e i
+unfolding fallen
+fallen-next J e i = found-next (λ (k : ℕ). leℤ (slope J e k) (negsuc 0)) i
+
+dip-at : (J : rules.Job) (e : List ℕ) (j : ℕ) → least (dips J e) (length e) ≡ j → dipOf J e ≡ onlyIf (ltb j (length e)) j
+unfolding dipOf
+dip-at J e j q = ap (λ (k : ℕ). onlyIf (ltb k (length e)) k) q
+
+pub record Seen (J : rules.Job) (e : List ℕ) (down : Bool) (i : ℕ) : Type 0 where
+  pub no-dip : least (dips J e) i ≡ i
+  pub down-is : down ≡ fallen J e i
+
+pub record Looking (b e : List ℕ) (down : Bool) (i : ℕ) : Type 0 where
+  pub i-most : i ≤ length e
+  pub job : rules.Job
+  pub digits : Slopes b e job
+  pub seen : (J : rules.Job) → Slopes b e J → Seen J e down i
+
+pub looking-start : {j : Job} {e : List ℕ} → Digits j e → Looking (j .b) e false 0
+unfolding least fallen
+looking-start d = record {
+  i-most = omega arith;
+  job = d .job;
+  digits = d .slopes;
+  seen = λ J s. record { no-dip = refl; down-is = refl };
+}
+
+module _ {b e : List ℕ} {down : Bool} {i : ℕ} (w : Looking b e down i) where
+  module _ (l : i < length e) {up : ℕ} (q : up ≡ getD b (getD e i 0 - one) 0) where
+    falls : (J : rules.Job) → Slopes b e J → leℤ (slope J e i) (negsuc 0) ≡ ltb up 128
+    falls J s = falls-is (slope J e i) (getD b (getD e i 0 - one) 0) (s .adds i l) ∙ ap (λ (p : ℕ). ltb p 128) (sym q)
+
+    dip-is : (J : rules.Job) → Slopes b e J → dips J e i ≡ ltb 128 up && down
+    dip-is J s =
+        ap₂ _&&_ (rises-is (slope J e i) (getD b (getD e i 0 - one) 0) (s .adds i l) ∙ ap (ltb 128) (sym q)) (sym (w .seen J s .down-is))
+
+    pub dips-at : 128 < up → down ≡ true → (J : rules.Job) → Slopes b e J → dipSays (At i) ≡ value (dipOf J e)
+    dips-at h d J s =
+        let found : dips J e i ≡ true = dip-is J s ∙ ap₂ _&&_ (lt-ltb 128 up h) d in
+        ap value (sym (dip-at J e i (least-at (dips J e) i (length e) (w .seen J s .no-dip) found l) ∙ ap (λ (t : Bool). onlyIf t i) (lt-ltb i (length e) l)))
+
+    pub looking-more : {later : Bool} → ltb 128 up && down ≡ false → later ≡ ltb up 128 || down → Looking b e later (i + 1)
+    looking-more {later} h r = record {
+      i-most = omega arith;
+      job = w .job;
+      digits = w .digits;
+      seen = λ J s. rw (add-one i) (record {
+        no-dip = least-on (dips J e) i (w .seen J s .no-dip) (dip-is J s ∙ h);
+        down-is = r ∙ ap₂ _||_ (sym (falls J s)) (w .seen J s .down-is) ∙ sym (fallen-next J e i);
+      });
+    }
+
+  pub dips-never : length e ≤ i → (J : rules.Job) → Slopes b e J → dipSays Never ≡ value (dipOf J e)
+  dips-never l J s =
+      let q : i ≡ length e = omega (arith, w .i-most) in
+      ap value (sym (dip-at J e (length e) (subst (λ (k : ℕ). least (dips J e) k ≡ k) q (w .seen J s .no-dip)) ∙ ap (λ (t : Bool). onlyIf t (length e)) (le-ltb (length e) (length e) (omega arith))))
+
+-- ---- the replies
+
+module _ (block : List ℕ) where
+  pub kind-refused : (k : ℕ) → refusal k ≡ reply (countAnswer block) → refusal k ≡ reply (kindAnswer block)
+  unfolding countAnswer kindAnswer
+  kind-refused k e = go (knownJob block) e
+    where
+      go : (a : Answer rules.Job) → refusal k ≡ reply (andThen a (λ J. accepted (countOf J))) → refusal k ≡ reply (andThen {B = Option ℕ} a (λ J. refused kind))
+      go (accepted J) e = absurd (apart (countOf J) k (sym e))
+      go (refused r) e = carried k (refusalNumber r) e
+
+  pub kind-value : (c : ℕ) → value c ≡ reply (countAnswer block) → refusal 11 ≡ reply (kindAnswer block)
+  unfolding countAnswer kindAnswer refusalNumber
+  kind-value c e = go (knownJob block) e
+    where
+      go : (a : Answer rules.Job) → value c ≡ reply (andThen a (λ J. accepted (countOf J))) → refusal 11 ≡ reply (andThen {B = Option ℕ} a (λ J. refused kind))
+      go (accepted J) e = refl
+      go (refused r) e = absurd (apart c (refusalNumber r) e)
+
+  module _ (e : List ℕ) where
+    -- what is asked of the job
+    abbrev asks : rules.Job → Answer (Option ℕ)
+    asks J = check (isDirected J) kind (check (walks J origin e) not-an-edge (accepted (dipOf J e)))
+
+    dip-job : (a : Answer rules.Job) → jobAnswer block ≡ a → dipAnswer block e ≡ andThen (andThen a (λ J. check (leb (countOf J) most) over (accepted J))) asks
+    unfolding dipAnswer knownJob
+    dip-job a q = ap (λ (x : Answer rules.Job). andThen (andThen x (λ J. check (leb (countOf J) most) over (accepted J))) asks) q
+
+    pub dip-told : {k : ℕ} → Told block k → refusal k ≡ reply (dipAnswer block e)
+    dip-told t = ap refusal (t .number) ∙ ap reply (sym (dip-job (refused (t .refusal)) (t .answer)))
+
+    module _ {j : Job} (h : Kept block j) where
+      abbrev fits : Bool
+      fits = leb (countOf (h .job)) most
+
+      dip-fitted : dipAnswer block e ≡ check fits over (asks (h .job))
+      dip-fitted = dip-job (accepted (h .job)) (h .answer) ∙ go fits
+        where
+          go : (t : Bool) → andThen (check t over (accepted (h .job))) asks ≡ check t over (asks (h .job))
+          go true = refl
+          go false = refl
+
+      cornered : {J : rules.Job} → Stands j J → j .family ≤ 5 → isDirected J ≡ false
+      cornered (as-north-east q v) l = refl
+      cornered (as-dyck q v) l = refl
+      cornered (as-delannoy q v) l = refl
+      cornered (as-schroder q v) l = refl
+      cornered (as-motzkin q v) l = refl
+      cornered (as-open q v) l = absurd (omega arith)
+      cornered (as-fenced q v) l = absurd (omega arith)
+
+      sloped : {J : rules.Job} → Stands j J → 5 < j .family → isDirected J ≡ true
+      sloped (as-north-east q v) l = absurd (omega arith)
+      sloped (as-dyck q v) l = absurd (omega arith)
+      sloped (as-delannoy q v) l = absurd (omega arith)
+      sloped (as-schroder q v) l = absurd (omega arith)
+      sloped (as-motzkin q v) l = absurd (omega arith)
+      sloped (as-open q v) l = refl
+      sloped (as-fenced q v) l = refl
+
+      kind-fitted : kindAnswer block ≡ check fits over (refused kind)
+      unfolding kindAnswer knownJob
+      kind-fitted = ap (λ (x : Answer rules.Job). andThen (andThen x (λ J. check (leb (countOf J) most) over (accepted J))) (λ J. refused kind)) (h .answer) ∙ go fits
+        where
+          go : (t : Bool) → andThen {B = Option ℕ} (check t over (accepted (h .job))) (λ J. refused kind) ≡ check t over (refused kind)
+          go true = refl
+          go false = refl
+
+      pub dip-kind : j .family ≤ 5 → kindAnswer block ≡ dipAnswer block e
+      dip-kind l =
+          kind-fitted
+          ∙ sym (dip-fitted ∙ ap (λ (d : Bool). check fits over (check d kind (check (walks (h .job) origin e) not-an-edge (accepted (dipOf (h .job) e))))) (cornered (h .stands) l))
+
+      module _ (l : 5 < j .family) where
+        -- refusals 4 and 5 are those of the edge's number
+        valued : Bool → Bool → Answer (Option ℕ)
+        valued t w = check t over (check w not-an-edge (accepted (dipOf (h .job) e)))
+
+        numbered-too : Bool → Bool → Answer ℕ
+        numbered-too t w = check t over (check w not-an-edge (accepted (numberOf (h .job) e)))
+
+        dip-sloped : dipAnswer block e ≡ valued fits (walks (h .job) origin e)
+        unfolding valued
+        dip-sloped = dip-fitted ∙ ap (λ (d : Bool). check fits over (check d kind (check (walks (h .job) origin e) not-an-edge (accepted (dipOf (h .job) e))))) (sloped (h .stands) l)
+
+        number-is : numberAnswer block e ≡ numbered-too fits (walks (h .job) origin e)
+        unfolding numbered-too
+        number-is = number-fitted block e (h .job) (h .answer)
+
+        pub dip-refused : (k : ℕ) → refusal k ≡ reply (numberAnswer block e) → refusal k ≡ reply (dipAnswer block e)
+        unfolding valued numbered-too
+        dip-refused k q = go fits (walks (h .job) origin e) (q ∙ ap reply number-is) ∙ ap reply (sym dip-sloped)
+          where
+            go : (t w : Bool) → refusal k ≡ reply (numbered-too t w) → refusal k ≡ reply (valued t w)
+            go true true q = absurd (apart (numberOf (h .job) e) k (sym q))
+            go true false q = carried k (refusalNumber not-an-edge) q
+            go false w q = carried k (refusalNumber over) q
+
+        module _ (x : ℕ) (q : value x ≡ reply (numberAnswer block e)) where
+          both-true : (fits ≡ true) × (walks (h .job) origin e ≡ true)
+          unfolding numbered-too
+          both-true = go fits (walks (h .job) origin e) (q ∙ ap reply number-is)
+            where
+              go : (t w : Bool) → value x ≡ reply (numbered-too t w) → (t ≡ true) × (w ≡ true)
+              go true true q = (refl, refl)
+              go true false q = absurd (apart x (refusalNumber not-an-edge) q)
+              go false w q = absurd (apart x (refusalNumber over) q)
+
+          pub dip-digits : Digits j e
+          dip-digits = record { job = h .job; slopes = slopes (h .stands) e l (both-true .1) }
+
+          dip-accepted : dipAnswer block e ≡ accepted (dipOf (h .job) e)
+          unfolding valued
+          dip-accepted = dip-sloped ∙ ap₂ valued (both-true .0) (both-true .1)
+
+          pub dip-value : (r : Dips) → DipsAs j e r → dipSays r ≡ reply (dipAnswer block e)
+          unfolding dip-digits
+          dip-value r f = f (h .job) (dip-digits .slopes) ∙ ap reply (sym dip-accepted)

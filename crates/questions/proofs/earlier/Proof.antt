@@ -1,0 +1,56 @@
+-- `questions::earlier` meets its contract: by what the comparison says, one of the lent edges itself, or its empty front. Assumes nothing.
+use mathlib.Core.Path.{refl, sym, ap, _∙_}
+use borrow.Author.Needs.{needs}
+use Rattle.rules.specs.Questions.{secondAnswer}
+use Rattle.questions.specs.Replies.{whichSays}
+use Rattle.questions.proofs.Comparing.{handed-first, handed-second, handed-refused}
+use Rattle.questions.proofs.earlier.Statement.{statement}
+use Rattle.questions.proofs.earlier.Tie as tie
+
+compare-requires : tie.Need-compare-requires
+compare-requires c κs = search needs
+
+enum-told : tie.Need-enum-told
+enum-told c = search needs
+
+enum-told-2 : tie.Need-enum-told-2
+enum-told-2 c = search needs
+
+enum-told-3 : tie.Need-enum-told-3
+enum-told-3 c = search needs
+
+sub-result : tie.Need-sub-result
+sub-result c = search needs
+
+part-result-start : tie.Need-part-result-start
+part-result-start c = search needs
+
+part-result-end : tie.Need-part-result-end
+part-result-end c = search needs
+
+returns : tie.Need-returns
+returns c =
+    handed-first (c .before .before .before .before .before .before .args .a) (c .before .before .before .before .before .before .args .b) (secondAnswer (c .before .before .before .before .before .before .args .block .now) (c .before .before .before .before .before .before .args .a .now) (c .before .before .before .before .before .before .args .b .now)) (sym (ap whichSays (c .enum-told .given .1)) ∙ c .before .before .compare .ensures) refl
+
+returns-2 : tie.Need-returns-2
+returns-2 c =
+    handed-second (c .before .before .before .before .before .before .args .a) (c .before .before .before .before .before .before .args .b) (secondAnswer (c .before .before .before .before .before .before .args .block .now) (c .before .before .before .before .before .before .args .a .now) (c .before .before .before .before .before .before .args .b .now)) (sym (ap whichSays (c .enum-told2 .given .1)) ∙ c .before .before .compare .ensures) refl
+
+returns-3 : tie.Need-returns-3
+returns-3 c =
+    handed-refused (c .before .before .before .before .before .before .before .args .a) (c .before .before .before .before .before .before .before .args .b) (secondAnswer (c .before .before .before .before .before .before .before .args .block .now) (c .before .before .before .before .before .before .before .args .a .now) (c .before .before .before .before .before .before .before .args .b .now)) _ (sym (ap whichSays (c .before .enum-told3 .given .1)) ∙ c .before .before .before .compare .ensures) (record { block = refl; place = refl; bytes = refl })
+
+pub earlier-spec : {M : Type 1} → statement M
+earlier-spec =
+    tie.close
+    (tie.spec
+    compare-requires
+    enum-told
+    enum-told-2
+    enum-told-3
+    sub-result
+    part-result-start
+    part-result-end
+    returns
+    returns-2
+    returns-3)
