@@ -1,10 +1,15 @@
 // The calls for C (include/edges.h): each returns 0 or document 01's refusal number, and changes nothing on a refusal.
 ghost use Rattle.rules.specs.Answers.{countAnswer, widthAnswer, numberAnswer, buildAnswer};
-ghost use Rattle.edges.specs.Seen.{Seen, SeenWrite};
+ghost use Rattle.rules.specs.Questions.{dipAnswer, secondAnswer, packAnswer, partAnswer, repeatAnswer};
+ghost use Rattle.edges.specs.Seen.{Seen, SeenWrite, SeenDip, SeenSecond, SeenPart, SeenRepeat};
 use job::Built;
 use job::Counted;
 use job::Numbered;
 use job::Sized;
+use pack::Parted;
+use pack::Repeats;
+use questions::Dips;
+use questions::Which;
 
 // How many edges the block's job has, behind `count`.
 #[no_mangle]
@@ -59,5 +64,102 @@ pub extern "C" fn edges_build(block: &[u8], number: u64, out: &mut [u8], len: &m
             0
         }
         Built::Refused(k) => k,
+    }
+}
+
+// Whether the edge dips behind `dips`, and where behind `place`, which is left as it was if it doesn't.
+#[no_mangle]
+pub extern "C" fn edges_dip(block: &[u8], edge: &[u8], dips: &mut u8, place: &mut usize) -> u8
+    ensures { λ r. ⌜ SeenDip (dipAnswer (now (block .entry)) (now (edge .entry))) r (now (dips .entry)) (now (place .entry)) (now (dips .exit)) (now (place .exit)) ⌝ }
+{
+    match questions::dip(block, edge) {
+        Dips::At(i) => {
+            *dips = 1;
+            *place = i;
+            0
+        }
+        Dips::Never => {
+            *dips = 0;
+            0
+        }
+        Dips::Refused(k) => k,
+    }
+}
+
+// Whether the second of two edges is the earlier one, behind `second`.
+#[no_mangle]
+pub extern "C" fn edges_earlier(block: &[u8], a: &[u8], b: &[u8], second: &mut u8) -> u8
+    ensures { λ r. ⌜ SeenSecond (secondAnswer (now (block .entry)) (now (a .entry)) (now (b .entry))) r (now (second .entry)) (now (second .exit)) ⌝ }
+{
+    match questions::compare(block, a, b) {
+        Which::First => {
+            *second = 0;
+            0
+        }
+        Which::Second => {
+            *second = 1;
+            0
+        }
+        Which::Refused(k) => k,
+    }
+}
+
+// The pack of the edges of these numbers at the front of `out`, and its length behind `len`.
+#[no_mangle]
+pub extern "C" fn edges_pack_write(
+    block: &[u8],
+    numbers: &[u64],
+    out: &mut [u8],
+    len: &mut usize,
+) -> u8
+    ensures { λ r. ⌜ SeenWrite (packAnswer (now (block .entry)) (now (numbers .entry)) (now (out .entry))) r (now (len .entry)) (now (len .exit)) (now (out .exit)) ⌝ }
+{
+    match packing::write(block, numbers, out) {
+        Built::Length(l) => {
+            *len = l;
+            0
+        }
+        Built::Refused(k) => k,
+    }
+}
+
+// Where edge i of a pack begins and ends, behind `start` and `end`.
+#[no_mangle]
+pub extern "C" fn edges_pack_edge(pack: &[u8], i: usize, start: &mut usize, end: &mut usize) -> u8
+    ensures { λ r. ⌜ SeenPart (partAnswer (now (pack .entry)) i) r (now (start .entry)) (now (end .entry)) (now (start .exit)) (now (end .exit)) ⌝ }
+{
+    match pack::part(pack, i) {
+        Parted::Part(s, e) => {
+            *start = s;
+            *end = e;
+            0
+        }
+        Parted::Refused(k) => k,
+    }
+}
+
+// Whether an edge of a pack equals an earlier one behind `found`, and the two behind `later` and `earlier`, which are left as they were if
+// there is none.
+#[no_mangle]
+pub extern "C" fn edges_pack_repeat(
+    pack: &[u8],
+    found: &mut u8,
+    later: &mut usize,
+    earlier: &mut usize,
+) -> u8
+    ensures { λ r. ⌜ SeenRepeat (repeatAnswer (now (pack .entry))) r (now (found .entry)) (now (later .entry)) (now (earlier .entry)) (now (found .exit)) (now (later .exit)) (now (earlier .exit)) ⌝ }
+{
+    match pack::repeat(pack) {
+        Repeats::At(i, j) => {
+            *found = 1;
+            *later = i;
+            *earlier = j;
+            0
+        }
+        Repeats::Never => {
+            *found = 0;
+            0
+        }
+        Repeats::Refused(k) => k,
     }
 }
