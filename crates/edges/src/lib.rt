@@ -115,8 +115,8 @@ pub extern "C" fn edges_pack_write(
     ensures { λ r. ⌜ SeenWrite (packAnswer (now (block .entry)) (now (numbers .entry)) (now (out .entry))) r (now (len .entry)) (now (len .exit)) (now (out .exit)) ⌝ }
 {
     match packing::write(block, numbers, out) {
-        Built::Length(l) => {
-            *len = l;
+        Built::Length(n) => {
+            *len = n;
             0
         }
         Built::Refused(k) => k,

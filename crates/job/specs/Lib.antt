@@ -1,3 +1,4 @@
 pub mod Made
 pub mod Replies
 pub mod Stands
+pub mod Parts

@@ -33,7 +33,7 @@ use Rattle.job.specs.Stands.{Stands}
 use Rattle.job.specs.Replies.{reply}
 use Rattle.job.specs.Replies.Reply.{value, refusal}
 use Rattle.job.proofs.Standing.{Bytes, Kept, kept-of, told-of}
-use Rattle.pack.specs.Replies.{refusalIn}
+use Rattle.job.specs.Parts.{refusalIn}
 
 -- ---- replies and refusal numbers
 

@@ -30,7 +30,7 @@ use Rattle.job.specs.declared.Job.{Job}
 use Rattle.job.specs.Replies.{reply}
 use Rattle.job.specs.Replies.Reply.{value, refusal}
 use Rattle.pack.specs.Layout.{Laid, edgesIn}
-use Rattle.pack.specs.Replies.{refusalIn}
+use Rattle.job.specs.Parts.{refusalIn}
 use Rattle.pack.specs.Validity.{AllWalkAs}
 use Rattle.pack.proofs.Layouts.{laid-of}
 use Rattle.pack.proofs.Listed.{edges-length}

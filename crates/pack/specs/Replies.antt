@@ -1,24 +1,16 @@
 -- What each case of an answer on a pack says: document 01's refusal number, or the value.
 --
---   refusalIn a     the refusal number of an answer, 0 if none
 --   partSays        the reply that each case of Parted stands for: where edge i begins and ends
 --   repeatSays      the reply that each case of Repeats stands for: the later and the earlier edge, or none
 use mathlib.Core.Option.{Option, none, some}
 use Prim.Native.Nat.{ℕ}
 use Rattle.rules.specs.Questions.{Part, Twice}
-use Rattle.rules.specs.Refusals.{Answer, refusalNumber}
-use Rattle.rules.specs.Refusals.Answer.{accepted, refused}
 use Rattle.job.specs.Replies.{Reply}
 use Rattle.job.specs.Replies.Reply.{value, refusal}
 use Rattle.pack.specs.declared.Parted.{Parted}
 use Rattle.pack.specs.declared.Parted.the-variants.{Part as PartAt, Refused as PartRefused}
 use Rattle.pack.specs.declared.Repeats.{Repeats}
 use Rattle.pack.specs.declared.Repeats.the-variants.{At, Never, Refused as RepeatRefused}
-
--- "a partner question gives the refusal number, 0 if none"
-abbrev pub refusalIn : {A : Type 0} → Answer A → ℕ
-refusalIn (accepted a) = 0
-refusalIn (refused r) = refusalNumber r
 
 -- "Edge i of a pack: handed back as part of the pack."
 abbrev pub partSays : Parted → Reply Part

@@ -4,7 +4,7 @@ ghost use Prim.Native.Nat.{ℕ, _+_, _≤_, _<_};
 ghost use lib.ListN.{length, take};
 ghost use Rattle.rules.specs.Packs.{countIn, laid, mark, offset, rises, sameBytes, word};
 ghost use Rattle.pack.specs.Layout.{EdgeAt, Offset};
-ghost use Rattle.pack.specs.Parts.{PartOf};
+ghost use Rattle.job.specs.Parts.{PartOf};
 use super::Pack;
 
 fn wide(b: u8) -> usize

@@ -2,9 +2,10 @@
 ghost use mathlib.Core.Path.{_≡_};
 ghost use Prim.Native.Nat.{ℕ};
 ghost use Rattle.rules.specs.Questions.{partAnswer, repeatAnswer};
+ghost use Rattle.job.specs.Parts.{refusalIn};
 ghost use Rattle.job.specs.Replies.{reply};
 ghost use Rattle.pack.specs.Parts.{EdgeIs};
-ghost use Rattle.pack.specs.Replies.{partSays, refusalIn, repeatSays};
+ghost use Rattle.pack.specs.Replies.{partSays, repeatSays};
 
 mod layout;
 mod refusals;

@@ -3,7 +3,7 @@ ghost use mathlib.Core.Path.{_≡_};
 ghost use Prim.Native.Nat.{ℕ};
 ghost use Rattle.rules.specs.Questions.{readAnswer};
 ghost use Rattle.pack.specs.Layout.{Laid, edgesIn};
-ghost use Rattle.pack.specs.Replies.{refusalIn};
+ghost use Rattle.job.specs.Parts.{refusalIn};
 ghost use Rattle.pack.specs.Validity.{AllWalkAs};
 ghost use Rattle.pack.specs.Walks.{Held};
 use super::Pack;

@@ -54,13 +54,13 @@ taken (accepted u) v e = cc
 taken (refused r) v e = absurd (value-not v (refusalNumber r) e)
 
 -- what was written of an edge: its length, and its bytes at the output's front
-record Put (a : Answer (List ℕ)) (output : List ℕ) (l : ℕ) (after : List ℕ) : Type 0 where
-  edge : List ℕ
-  is : a ≡ accepted edge
-  long : length edge ≡ l
-  bytes : after ≡ edge ++ drop (length edge) output
+pub record Put (a : Answer (List ℕ)) (output : List ℕ) (l : ℕ) (after : List ℕ) : Type 0 where
+  pub edge : List ℕ
+  pub is : a ≡ accepted edge
+  pub long : length edge ≡ l
+  pub bytes : after ≡ edge ++ drop (length edge) output
 
-put-of : (a : Answer (List ℕ)) (output after : List ℕ) (l : ℕ) → BuiltAs (written a output) (Length l) after → Put a output l after
+pub put-of : (a : Answer (List ℕ)) (output after : List ℕ) (l : ℕ) → BuiltAs (written a output) (Length l) after → Put a output l after
 unfolding written
 put-of (refused r) output after l h = absurd (value-not l (refusalNumber r) (h .says))
 put-of (accepted e) output after l h = go (leb (length e) (length output)) h

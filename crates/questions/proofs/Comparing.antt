@@ -17,7 +17,8 @@ use Rattle.rules.specs.Answers.{numberAnswer}
 use Rattle.rules.specs.Questions.{secondAnswer}
 use Rattle.job.specs.Replies.{Reply, reply}
 use Rattle.job.specs.Replies.Reply.{value, refusal}
-use Rattle.questions.specs.Replies.{whichSays, whichOf, refusalIn, PartOf, Handed}
+use Rattle.job.specs.Parts.{PartOf, refusalIn}
+use Rattle.questions.specs.Replies.{whichSays, whichOf, Handed}
 
 -- a reply is a value or a refusal, never both
 pub apart : {A : Type 0} (a : A) (k : ℕ) → value a ≡ refusal k → ⊥

@@ -1,3 +1,2 @@
 pub mod Comparing
 pub mod Dipping
-pub mod One

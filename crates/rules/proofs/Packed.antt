@@ -88,7 +88,7 @@ module _ (block : List ℕ) (J : Job) (job : jobAnswer block ≡ accepted J) whe
 abbrev packing : List ℕ → List ℕ → Answer (List ℕ)
 packing block ns = check (leb (length ns) 200) many (andThen (edgesAnswer block ns) (λ es. accepted (packBytes block es)))
 
-packed-known : (block ns p : List ℕ) → packedAnswer block ns ≡ accepted p → (J : Job) × (knownJob block ≡ accepted J) × (packing block ns ≡ accepted p)
+pub packed-known : (block ns p : List ℕ) → packedAnswer block ns ≡ accepted p → (J : Job) × (knownJob block ≡ accepted J) × (packing block ns ≡ accepted p)
 unfolding packedAnswer
 packed-known block ns p e = then-passed (knownJob block) (λ J. packing block ns) p e
 

@@ -10,8 +10,8 @@ use Rattle.edges.proofs.edges_pack_write.Tie as tie
 write-requires : tie.Need-write-requires
 write-requires c κs = search needs
 
-enum-known-l : tie.Need-enum-known-l
-enum-known-l c = search needs
+enum-known-n : tie.Need-enum-known-n
+enum-known-n c = search needs
 
 enum-known-k : tie.Need-enum-known-k
 enum-known-k c = search needs
@@ -20,7 +20,7 @@ same-length : tie.Need-same-length
 same-length c = search needs
 
 returns : tie.Need-returns
-returns c = sees-write (value _) _ _ _ _ (ap buildSays (c .before .l .given .1)) (c .before .before .before .before .before .write .ensures)
+returns c = sees-write (value _) _ _ _ _ (ap buildSays (c .before .n .given .1)) (c .before .before .before .before .before .write .ensures)
 
 same-length-2 : tie.Need-same-length-2
 same-length-2 c = search needs
@@ -31,4 +31,4 @@ returns-2 c = sees-write (refusal _) _ _ _ _ (ap buildSays (c .before .k .given 
 pub edges-pack-write-spec : {M : Type 1} → statement M
 edges-pack-write-spec =
     tie.close
-    (tie.spec write-requires enum-known-l enum-known-k same-length returns same-length-2 returns-2)
+    (tie.spec write-requires enum-known-n enum-known-k same-length returns same-length-2 returns-2)
