@@ -119,7 +119,7 @@ pub extern "C" fn edges_pack_write(
             *len = n;
             0
         }
-        Built::Refused(k) => k,
+        Built::Refused(r) => r,
     }
 }
 

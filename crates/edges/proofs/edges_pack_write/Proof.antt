@@ -13,8 +13,8 @@ write-requires c κs = search needs
 enum-known-n : tie.Need-enum-known-n
 enum-known-n c = search needs
 
-enum-known-k : tie.Need-enum-known-k
-enum-known-k c = search needs
+enum-known-r : tie.Need-enum-known-r
+enum-known-r c = search needs
 
 same-length : tie.Need-same-length
 same-length c = search needs
@@ -26,9 +26,9 @@ same-length-2 : tie.Need-same-length-2
 same-length-2 c = search needs
 
 returns-2 : tie.Need-returns-2
-returns-2 c = sees-write (refusal _) _ _ _ _ (ap buildSays (c .before .k .given .1)) (c .before .before .before .before .before .write .ensures)
+returns-2 c = sees-write (refusal _) _ _ _ _ (ap buildSays (c .before .r .given .1)) (c .before .before .before .before .before .write .ensures)
 
 pub edges-pack-write-spec : {M : Type 1} → statement M
 edges-pack-write-spec =
     tie.close
-    (tie.spec write-requires enum-known-n enum-known-k same-length returns same-length-2 returns-2)
+    (tie.spec write-requires enum-known-n enum-known-r same-length returns same-length-2 returns-2)
