@@ -6,10 +6,10 @@
 --   count-refused, count-fits    the count's answer
 --   number-refused, number-fits  the number's
 --   build-refused, build-fits    the edges'
-use mathlib.Core.Path.{_≡_, refl, sym, ap, ap₂, _∙_, subst}
+use mathlib.Core.Path.{_≡_, refl, sym, ap, ap₂, _∙_}
 use mathlib.Core.Bool.{Bool, true, false}
 use mathlib.Core.List.{List, map}
-use Prim.Native.Nat.{ℕ, _≤_, _<_}
+use Prim.Native.Nat.{ℕ}
 use Rattle.howmany.specs.Choose.{pick}
 use Rattle.howmany.proofs.Choices.{is-true, is-false}
 use Rattle.arches.specs.Counts.{count}
@@ -20,7 +20,7 @@ use Rattle.rules.specs.Jobs.Job.{dyck, schroder, motzkin}
 use Rattle.rules.specs.Valid.{walks, Valid}
 use Rattle.rules.specs.Counts.{C, S, M, countOf}
 use Rattle.rules.specs.Numbers.{numberOf, edgeOf}
-use Rattle.rules.specs.Refusals.{Answer, refusalNumber, check, andThen}
+use Rattle.rules.specs.Refusals.{Answer, check, andThen}
 use Rattle.rules.specs.Refusals.Refusal.{not-an-edge, beyond, kind}
 use Rattle.rules.specs.Refusals.Answer.{accepted, refused}
 use Rattle.rules.specs.Blocks.{familyOf, square}

@@ -5,16 +5,15 @@
 --   next-lined      one edge more; all-lined: all of them
 use mathlib.Core.Path.{_≡_, refl, sym, ap, _∙_}
 use mathlib.Core.Bool.{Bool, true, false}
-use mathlib.Core.List.{List, map}
+use mathlib.Core.List.{List}
 use Prim.Native.Nat.{ℕ, _+_, _-_, _≤_, _<_}
 use native.Mathlib.Nat.{le-refl}
 use native.Mathlib.Omega.{arith}
 use lib.ListN.{length, getD, take, drop, set}
 use borrow.Rule.Slice.PartMut.{putMid}
 use Rattle.arches.specs.Counts.{count}
-use Rattle.rules.specs.Refusals.{refusalNumber, check}
+use Rattle.rules.specs.Refusals.{refusalNumber}
 use Rattle.rules.specs.Refusals.Refusal.{beyond}
-use Rattle.rules.specs.Refusals.Answer.{accepted}
 use Rattle.rules.specs.Questions.{allBelow}
 use Rattle.job.specs.declared.Built.the-variants.{Length, Refused}
 use Rattle.lines.specs.Lines.{lined, LinedAs}

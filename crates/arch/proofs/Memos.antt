@@ -12,12 +12,13 @@ use mathlib.Core.Path.{_≡_, refl, sym, _∙_}
 use mathlib.Core.Bool.{false}
 use mathlib.Core.Logic.{_≢_}
 use mathlib.Core.List.{List}
-use Prim.Native.Nat.{ℕ, zero, suc, _+_, _-_, _*_, _/_, _%_, _^_, _≤_, _<_}
+use Prim.Native.Nat.{ℕ, _+_, _-_, _*_, _/_, _%_, _^_, _≤_, _<_}
 use native.Mathlib.Nat.{not-suc-le-zero}
 use native.Mathlib.Decide.{ℕ-discrete, decLe}
 use native.Mathlib.Omega.{arith}
 use lib.ListN.{getD, length, set, length-set, List·getD-eq-default, replicate}
 use lib.Seq.{getD-set-same, getD-set-other}
+use Rattle.job.proofs.Puts.{zeros-at}
 use Rattle.arches.specs.Counts.{count, before}
 use Rattle.arches.proofs.Counting.{count-zero, before-mono}
 use Rattle.arches.proofs.Limits.{dyck-limit}
@@ -68,14 +69,9 @@ module _ (n half s : ℕ) (pos : 0 < n) (eh : half ≡ n / 2) (es : s ≡ part n
       rw ea (omega (arith, rw g at (halves n half pos (omega arith)), rw k at (before-next false 0 (n - 1) half)))
 
 -- ---- the memo
-none-at : (n k : ℕ) → _≡_ {A = ℕ} (getD (replicate n 0) k 0) 0
-none-at zero k = refl
-none-at (suc n) zero = refl
-none-at (suc n) (suc k) = none-at n k
-
 pub good-none : (n : ℕ) → Good (replicate n 0)
 unfolding Good
-good-none n k ne = absurd (ne (none-at n k))
+good-none n k ne = absurd (ne (zeros-at n k))
 
 pub good-set : (l : List ℕ) (n w : ℕ) → Good l → w ≡ C n → Good (set l n w)
 unfolding Good

@@ -24,6 +24,7 @@ use lib.Dec.{T}
 use lib.ListN.{getD, length, take, drop, length-drop, drop-of-length-le}
 use lib.Seq.{take-all, drop-cons, drop-drop, getD-drop}
 use borrow.Author.Tests.{not-true, not-false}
+use Rattle.howmany.proofs.Choices.{holds}
 use Rattle.arches.specs.Counts.{count}
 use Rattle.arches.specs.Trees.{Tree, Letter, letterOf, size, number, print, treeOf}
 use Rattle.arches.specs.Trees.Tree.{empty, dee, arch}
@@ -115,7 +116,7 @@ module _ (d : Bool) (v n x : ℕ) (s : List ℕ) (b : Bool) (next sz r : ℕ) wh
   arch-bad e g = subst (λ (b : Bool). ArchGot b d v n x s next sz r) (not-true b e) g
 
 d-some : (d : Bool) → not d ≡ false → T d
-d-some d e = subst (λ (b : Bool). T b) (sym (not-false d e)) tt
+d-some d e = holds (not-false d e)
 
 d-none : (d : Bool) → not d ≡ true → T d → ⊥
 d-none d e t = subst (λ (b : Bool). T b) (not-true d e) t

@@ -15,31 +15,19 @@ use native.Mathlib.Nat.{mod-add-div, mod-lt, div-lt-iff-lt-mul, mul-comm}
 use native.Mathlib.Decide.{decLe}
 use native.Mathlib.Omega.{arith}
 use lib.Dec.{T}
-use lib.ListN.{getD, length, take, drop, set, length-append, length-set, length-drop, drop-of-length-le}
+use lib.ListN.{length, take, drop, set, length-append, length-set, length-drop, drop-of-length-le}
 use lib.Seq.{take-at, drop-at, append-snoc, drop-drop}
 use borrow.Rule.Slice.PartMut.{putMid}
 use Rattle.arches.specs.Counts.{ifD, count}
 use Rattle.arches.specs.Trees.{Tree, size, number, build, print}
-use Rattle.arches.specs.Trees.Tree.{empty, dee, arch}
+use Rattle.arches.specs.Trees.Tree.{dee, arch}
 use Rattle.arches.proofs.Counting.{ifD-pos, count-short}
+use Rattle.arches.proofs.Lengths.{print-length}
 use Rattle.arches.proofs.Ranking.{pos-of-product, number-arch, number-one, build-built}
 use Rattle.job.proofs.Puts.{put-byte}
 use Rattle.arch.specs.Sums.{Falls}
 use Rattle.arch.specs.Answers.{Written}
 use Rattle.arch.proofs.Reading.{tail-part}
-
-length-print : (d : Bool) (v : ℕ) (t : Tree d) → length (print d v t) ≤ size d v t + size d v t
-unfolding print size
-length-print d v empty = zero-le
-length-print d v (dee p t) = omega (arith, length-append (print d v t) (68 ∷ []), length-print d v t)
-length-print d v (arch f i) =
-    omega (
-      arith,
-      length-append (print d v f) (69 ∷ (print d v i ++ (78 ∷ []))),
-      length-append (print d v i) (78 ∷ []),
-      length-print d v f,
-      length-print d v i,
-    )
 
 built-is : (d : Bool) (v n r : ℕ) (t : Tree d) → size d v t ≡ n → number d v t ≡ r → r < count d v n → t ≡ build d v n n r
 built-is d v n r t z q lt =
@@ -54,7 +42,7 @@ written-is d v n r old new k t z q lt s l =
     record {
       shown = rw e at s;
       long = rw e at l;
-      short = omega (arith, length-print d v t);
+      short = omega (arith, print-length d v t);
     }
 
 pub written-none : (d : Bool) (v n r : ℕ) (l : List ℕ) → n ≡ 0 → Written d v n r l l 0

@@ -7,15 +7,14 @@ use mathlib.Core.Path.{_≡_, refl, sym, ap, ap₂, _∙_, subst}
 use mathlib.Core.Bool.{Bool, true, false, _&&_}
 use mathlib.Core.Option.{Option, none, some}
 use mathlib.Core.List.{List, [], _∷_}
-use Prim.Native.Nat.{ℕ, zero, suc, _+_, _-_, _*_, _≤_, _<_}
+use Prim.Native.Nat.{ℕ, zero, suc, _+_, _-_, _*_, _<_}
 use native.Mathlib.Omega.{arith}
 use lib.Dec.{T, ltb, leb, ltb→lt}
 use Rattle.howmany.specs.Choose.{bit, onlyIf}
-use Rattle.howmany.specs.Sum.{sum}
 use Rattle.howmany.proofs.Sums.{sum-cong}
-use Rattle.backward.specs.Reader.{Reader, Lawful, valid, within, deep, count, rank, unrank}
+use Rattle.backward.specs.Reader.{Reader, Lawful, valid, within, count, rank, unrank}
 use Rattle.backward.specs.Walk.{enter}
-use Rattle.backward.specs.Grid.{Spot, Steps, off, inside, reach, grid, way, paths}
+use Rattle.backward.specs.Grid.{Spot, Steps, grid, way, paths}
 use Rattle.backward.proofs.Backward.{letter, rest, Built, unrank-built, unrank-one}
 
 module _ (State : Type 0) (letters : ℕ) (start : State → Bool) (size : State → ℕ) (f g : State → ℕ → Option State) (same : (s : State) (i : ℕ) → i < letters → f s i ≡ g s i) where

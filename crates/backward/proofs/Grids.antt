@@ -9,17 +9,17 @@
 --   spot-eq, at-start, reached, reaches    spots and tests by their parts
 use mathlib.Core.Path.{_≡_, refl, sym, ap, _∙_, subst}
 use mathlib.Core.Bool.{Bool, true, false, _&&_}
-use mathlib.Core.Option.{Option, none, some}
-use Prim.Native.Nat.{ℕ, zero, suc, _+_, _-_, _*_, _≤_, _<_}
+use mathlib.Core.Option.{Option, some}
+use Prim.Native.Nat.{ℕ, _+_, _*_, _≤_, _<_}
 use native.Mathlib.Nat.{add-sub-cancel, sub-add-cancel}
 use native.Mathlib.Omega.{arith}
 use lib.Dec.{T, leb, eqb, leb→le, le→leb, eqb→eq}
 use Rattle.howmany.specs.Choose.{bit, onlyIf, pick}
 use Rattle.howmany.specs.Sum.{sum}
-use Rattle.howmany.proofs.Choices.{and-left, and-right, and-both, is-false, bit-one, bit-none, only-some, only-true, only-none}
+use Rattle.howmany.proofs.Choices.{and-left, and-right, and-both, is-false, bit-none, only-some, only-true, only-none}
 use Rattle.howmany.proofs.Sums.{sum-cong, sum-none}
-use Rattle.backward.specs.Reader.{Reader, Lawful, count}
-use Rattle.backward.specs.Walk.{Way, Turned, enter}
+use Rattle.backward.specs.Reader.{Lawful, count}
+use Rattle.backward.specs.Walk.{Turned, enter}
 use Rattle.backward.specs.Grid.{Spot, Steps, on, off, inside, reach, grid, way, Onward, paths}
 use Rattle.backward.proofs.Backward.{count-none, count-some}
 

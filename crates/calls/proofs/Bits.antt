@@ -7,8 +7,8 @@ use mathlib.Core.Path.{_≡_, subst, sym}
 use native.Mathlib.Nat.{lt-of-not-le, le-of-suc-le-suc, pow-suc}
 use native.Mathlib.Omega.{arith}
 use lib.Pow.{pow-mono}
-use lib.Count.{leadingZeros, leading-length, leading-le}
-use Rattle.rules.specs.Width.{Holds, IsWidth, widthOf}
+use lib.Count.{leadingZeros, leading-length}
+use Rattle.rules.specs.Width.{IsWidth, widthOf}
 use Rattle.rules.proofs.Widths.{width-is, width-one}
 
 pub width-small : (c : ℕ) → c ≤ 1 → 0 ≡ widthOf c

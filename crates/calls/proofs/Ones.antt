@@ -2,32 +2,24 @@
 --
 --   One, one-built    what was lined is the edge; one-put: put to the output
 --   one-refused       the refusal
-use mathlib.Core.Path.{_≡_, refl, sym, ap, _∙_, subst}
+use mathlib.Core.Path.{_≡_, refl, sym, ap, _∙_}
 use mathlib.Core.List.{List, [], _∷_, _++_, append-nil}
 use Prim.Native.Nat.{ℕ, _≤_}
 use native.Mathlib.Omega.{arith}
 use lib.ListN.{length, take, drop, length-append}
 use lib.Seq.{take-at}
-use Rattle.rules.specs.Refusals.{Answer, andThen, refusalNumber}
+use Rattle.rules.specs.Refusals.{Answer, andThen}
 use Rattle.rules.specs.Refusals.Answer.{accepted, refused}
 use Rattle.rules.specs.Answers.{edgeAnswer, written, buildAnswer}
 use Rattle.rules.specs.Packs.{joined}
 use Rattle.rules.specs.Questions.{edgesAnswer}
 use Rattle.rules.proofs.Answering.{edges-of-one, build-of}
-use Rattle.job.specs.Replies.{Reply, reply, BuiltAs}
-use Rattle.job.specs.Replies.Reply.{value, refusal}
+use Rattle.job.specs.Replies.{BuiltAs}
 use Rattle.job.specs.declared.Built.{Built}
 use Rattle.job.specs.declared.Built.the-variants.{Length, Refused}
+use Rattle.job.proofs.Says.{value-one, value-not}
 use Rattle.lines.specs.Lines.{lines, lined, LinedAs}
 use Rattle.lines.proofs.Lining.{lines-roomy}
-
-abbrev value-of : Reply ℕ → ℕ
-value-of (value v) = v
-value-of (refusal r) = 0
-
-abbrev IsValue : Reply ℕ → Type 0
-IsValue (value v) = Unit {0}
-IsValue (refusal r) = ⊥
 
 abbrev alone : Answer (List ℕ) → Answer (List (List ℕ))
 alone a = andThen a (λ e. accepted (e ∷ []))
@@ -48,13 +40,13 @@ module _ (b : List ℕ) (n : ℕ) (steps ends : List ℕ) (room : 128 ≤ length
     where
       go : (a : Answer (List ℕ)) → edgeAnswer b n ≡ a → LinedAs (lined (alone a) steps ends) (Length l) s t → One b n l s
       go (accepted e) q v =
-          let long : l ≡ length (e ++ []) = ap value-of (v .says) in
+          let long : l ≡ length (e ++ []) = value-one (v .says) in
           let whole : e ++ [] ≡ e = append-nil e in
           record {
             fits = omega (arith, ap length (v .bytes), length-append (e ++ []) (drop (length (e ++ [])) steps));
             edge = q ∙ ap accepted (sym (ap (take l) (v .bytes) ∙ take-at (e ++ []) (drop (length (e ++ [])) steps) l (sym long) ∙ whole));
           }
-      go (refused x) q v = absurd (subst IsValue (v .says) tt)
+      go (refused x) q v = absurd (value-not (v .says))
 
   pub one-put : (x : Built) (l : ℕ) (s t : List ℕ) → x ≡ Length l → LinedAs (lines (edgesAnswer b (n ∷ [])) (n ∷ []) steps ends) x s t
       → (out after : List ℕ) (y : Built) → BuiltAs (written (accepted (take l s)) out) y after → BuiltAs (buildAnswer b n out) y after
@@ -66,5 +58,5 @@ module _ (b : List ℕ) (n : ℕ) (steps ends : List ℕ) (room : 128 ≤ length
   one-refused x r s t out e w = rw (build-of b n out) (go (edgeAnswer b n) (of-one (Refused r) s t (rw e at w)))
     where
       go : (a : Answer (List ℕ)) → LinedAs (lined (alone a) steps ends) (Refused r) s t → BuiltAs (written a out) (Refused r) out
-      go (accepted e) v = absurd (subst IsValue (sym (v .says)) tt)
+      go (accepted e) v = absurd (value-not (sym (v .says)))
       go (refused x) v = record { says = v .says; output = refl }

@@ -3,12 +3,12 @@
 --   of-arch, of-grid              the answer of the crate that has the family; lined-arch, lined-grid: the same for edges one after the other
 --   width-value, width-refusal    the width's reply, from the count's
 use mathlib.Core.Path.{_≡_, refl, sym, ap, _∙_}
-use mathlib.Core.Bool.{Bool, true, false}
+use mathlib.Core.Bool.{true, false}
 use mathlib.Core.List.{List}
 use Prim.Native.Nat.{ℕ}
 use Rattle.rules.specs.Width.{widthOf}
 use Rattle.rules.specs.Blocks.{familyOf, square}
-use Rattle.rules.specs.Refusals.{Answer, andThen, refusalNumber}
+use Rattle.rules.specs.Refusals.{Answer, andThen}
 use Rattle.rules.specs.Refusals.Answer.{accepted, refused}
 use Rattle.rules.specs.Answers.{countAnswer, widthAnswer}
 use Rattle.rules.proofs.Answering.{width-of-count}

@@ -1,6 +1,5 @@
 -- The edge of a number, written from its end over a filled table. Assumes nothing.
 --
---   map-reverse                  mapping and turning round
 --   seek-here, seek-more, seek-end    the loop of `seek`
 --   unr, unr-start, unr-step     the steps of the edge of a number, the last one first
 --   write-turn, write-done       a byte written in front of the others, and all of them
@@ -8,14 +7,15 @@
 use mathlib.Core.Path.{_≡_, refl, sym, ap, ap₂, _∙_}
 use mathlib.Core.Bool.{Bool}
 use mathlib.Core.Option.{Option, some}
-use mathlib.Core.List.{List, [], _∷_, _++_, map, reverse, reverseAux, reverse-cons, reverse-reverse, append-nil}
+use mathlib.Core.List.{List, [], _∷_, _++_, map, reverse, reverse-cons, reverse-reverse, append-nil}
 use Prim.Native.Nat.{ℕ, zero, suc, _+_, _-_, _*_, _≤_, _<_}
 use native.Mathlib.Omega.{arith}
 use native.Mathlib.Decide.{decLe}
 use native.Mathlib.Nat.{not-suc-le-zero}
-use lib.ListN.{length, getD, drop, set, length-set}
-use lib.Seq.{drop-length, drop-cons, getD-set-same, drop-set-lt, append-snoc, lt-length-set}
+use lib.ListN.{length, getD, drop, set, length-set, drop-of-length-le}
+use lib.Seq.{drop-cons, getD-set-same, drop-set-lt, append-snoc, lt-length-set}
 use borrow.Author.Tests.{ne-eqb}
+use Rattle.rules.proofs.Letters.{map-reverse}
 use Rattle.howmany.specs.Sum.{sum, Falls}
 use Rattle.howmany.proofs.Sums.{sum-cong}
 use Rattle.backward.specs.Reader.{count, unrank}
@@ -31,13 +31,6 @@ use Rattle.grid.proofs.Laws.{sum-more, via-in, via-left, via-under, W-s
 use Rattle.grid.proofs.Counts.{pos-of}
 use Rattle.grid.proofs.Reading.{back-is, end-in}
 use Rattle.grid.proofs.Numbers.{brought, reads-at, stand-back}
-
-map-onto : (g : ℕ → ℕ) (l r : List ℕ) → map g (reverseAux l r) ≡ reverseAux (map g l) (map g r)
-map-onto g [] r = refl
-map-onto g (a ∷ l) r = map-onto g l (a ∷ r)
-
-pub map-reverse : (g : ℕ → ℕ) (l : List ℕ) → map g (reverse l) ≡ reverse (map g l)
-map-reverse g l = map-onto g l []
 
 -- ---- the loop of `seek`: i steps are passed, which stand for all of r but left
 
@@ -109,11 +102,8 @@ module _ (k f : ℕ) (sa sc : List ℕ) (pos : (i : ℕ) → i < k → 1 ≤ get
 
 -- ---- bytes written at the end of a buffer
 
-drop-all : (l : List ℕ) {n : ℕ} → length l ≡ n → drop n l ≡ []
-drop-all l e = rw (← e) (drop-length l)
-
 write-start : (l t : List ℕ) (n : ℕ) → length l ≡ n → reverse (drop n l) ++ t ≡ t
-write-start l t n e = rw (drop-all l e)
+write-start l t n e = rw (drop-of-length-le l {i = n} (omega arith))
 
 write-turn : (buf : List ℕ) (s v : ℕ) (t u : List ℕ) → 0 < s → s ≤ length buf → t ≡ v ∷ u → reverse (drop (s - 1) (set buf (s - 1) v)) ++ u ≡ reverse (drop s buf) ++ t
 write-turn buf zero v t u p b q = absurd (not-suc-le-zero p)
@@ -165,7 +155,7 @@ module _ {corner few : Bool} {k f : ℕ} {sa sc off : List ℕ} {hi m ex ey : �
     writing-end h = (
       w .s-le,
       write-done buf _ (map (glyphOf corner) (unr k f sa sc ex ey r)) s (ap (map (glyphOf corner)) (unr-start k f sa sc (pos-of plan-of) x y left h (w .less))) (w .so-far)
-          ∙ sym (map-reverse (glyphOf corner) (unr k f sa sc ex ey r)),
+          ∙ map-reverse (glyphOf corner) (unr k f sa sc ex ey r),
     )
 
     module _ (px : 0 < x) where

@@ -7,39 +7,40 @@
 --   build-over, build-none, build-empty    the count needs more than 64 bits; it is 0, and there are numbers or none
 --   shaped-lined                the table's answer is the job's
 --   build-square, build-told, build-reply    the ways through a block
-use mathlib.Core.Path.{_≡_, refl, sym, ap, _∙_, subst}
+use mathlib.Core.Path.{_≡_, refl, sym, ap, _∙_}
 use mathlib.Core.Bool.{Bool, true, false}
 use mathlib.Core.List.{List, [], _∷_, _++_, map}
 use Prim.Native.Nat.{ℕ, suc, _+_, _-_, _^_, _≤_, _<_}
-use native.Mathlib.Nat.{not-suc-le-zero}
 use native.Mathlib.Omega.{arith}
 use lib.Dec.{leb}
 use lib.ListN.{length, getD, take, drop, set, length-drop}
 use lib.Seq.{take-all}
 use borrow.Rule.Slice.PartMut.{putMid}
 use borrow.Author.Tests.{le-leb, lt-leb}
+use Rattle.howmany.proofs.Choices.{holds}
 use Rattle.rules.specs.Jobs as rules
 use Rattle.rules.specs.Counts.{countOf}
 use Rattle.rules.specs.Numbers.{edgeOf}
 use Rattle.rules.specs.Blocks.{familyOf, square, jobAnswer}
-use Rattle.rules.specs.Refusals.{Answer, Refusal, check, refusalNumber}
+use Rattle.rules.specs.Refusals.{check, refusalNumber}
 use Rattle.rules.specs.Refusals.Refusal.{kind, over, beyond}
-use Rattle.rules.specs.Refusals.Answer.{accepted, refused}
+use Rattle.rules.specs.Refusals.Answer.{accepted}
 use Rattle.rules.specs.Answers.{most, written}
 use Rattle.rules.specs.Packs.{joined}
 use Rattle.rules.specs.Questions.{allBelow, edgesAnswer}
 use Rattle.rules.proofs.Demand3.{InRange}
 use Rattle.rules.proofs.Answering.{known-told, edges-told, edges-fitted}
+use Rattle.rules.proofs.Belows.{below-at, below-not}
 use Rattle.job.specs.Replies.{BuiltAs}
 use Rattle.job.specs.declared.Built.{Built}
 use Rattle.job.specs.declared.Built.the-variants.{Length, Refused}
 use Rattle.job.proofs.Standing.{Told}
 use Rattle.lines.specs.Lines.{endsFrom, lined, LinedAs}
-use Rattle.lines.proofs.Lining.{Lining, lining-next, lining-all, lined-refused, below-at, below-not}
+use Rattle.lines.proofs.Lining.{Lining, lining-next, lined-refused}
 use Rattle.grid.specs.Form.{W}
 use Rattle.grid.specs.Edges as edges
 use Rattle.grid.specs.Edges.{Spelling}
-use Rattle.grid.specs.Shapes.{Grids, Shaped}
+use Rattle.grid.specs.Shapes.{Grids}
 use Rattle.grid.specs.Spelling.{Front, Spells, edgesBy, edgesFor}
 use Rattle.grid.specs.Calls.{forGrid, edgesOf}
 use Rattle.grid.specs.declared.shape.Shape.{Shape}
@@ -60,7 +61,7 @@ front-of e buf old new at len x q a l z h b =
 
 module _ (corner few : Bool) (k f : ℕ) (sa sc off : List ℕ) (hi m ex ey : ℕ) (val ns : List ℕ) (s : Spells few k f sa sc off hi m ex ey val ns) where
   pub spelling-of : (i : ℕ) → i < length ns → Spelling few k f sa sc off hi m ex ey val (getD ns i 0)
-  spelling-of i l = record { ready = s .ready; solid = s .solid; fits = s .fits; less = below-at (W k f sa sc ex ey) ns (s .below) i l }
+  spelling-of i l = record { ready = s .ready; solid = s .solid; fits = s .fits; less = below-at (W k f sa sc ex ey) ns (holds (s .below)) i l }
 
 pub front-next : (g : ℕ → List ℕ) (ns steps ends : List ℕ) (i at : ℕ) (s t : List ℕ) → Lining g ns steps ends i at s t
     → (n : ℕ) (part : List ℕ) → i < length ns → Front (g (getD ns i 0)) (take (length s - at) (drop at s)) part n
@@ -127,7 +128,7 @@ build-shaped J s r g w ns = rw same (go (allBelow (countOf J) ns) refl)
         → check (leb (countOf J) most) over (check t beyond (accepted (map by ns))) ≡ check (leb (countOf J) most) over (check t beyond (accepted (map (edgeOf J) ns)))
     go true e =
         ap (λ (z : List (List ℕ)). check (leb (countOf J) most) over (accepted z))
-        (same-edges by (edgeOf J) (countOf J) ns (λ q l. shape-spells J s g r (w .fits) q (omega (arith, same))) (below-at (countOf J) ns e))
+        (same-edges by (edgeOf J) (countOf J) ns (λ q l. shape-spells J s g r (w .fits) q (omega (arith, same))) (below-at (countOf J) ns (holds e)))
     go false e = refl
 
 pub shaped-lined : (J : rules.Job) (s : Shape) → InRange J → Grids J → Working J s → (ns steps ends : List ℕ) (x : Built) (t u : List ℕ)

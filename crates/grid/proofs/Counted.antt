@@ -4,25 +4,22 @@
 --   state-over, state-none, state-working   what a shape's state says
 --   counts-over, counts-none, counts-cap    the reply for each way to a count
 --   told-reply, square-reply, count-reply   the reply for each way through a block
-use mathlib.Core.Path.{_≡_, refl, sym, ap, _∙_, subst}
+use mathlib.Core.Path.{_≡_, refl, sym, ap, _∙_}
 use mathlib.Core.Bool.{Bool, true, false}
 use mathlib.Core.List.{List}
 use Prim.Native.Nat.{ℕ, _^_, _≤_, _<_}
-use native.Mathlib.Decide.{decLt}
 use native.Mathlib.Omega.{arith}
-use lib.Dec.{T, leb, ltb}
-use lib.ListN.{getD}
-use borrow.Author.Tests.{le-leb, lt-leb, lt-ltb, le-ltb}
-use Rattle.howmany.specs.Choose.{pick}
-use Rattle.howmany.proofs.Choices.{is-false}
+use lib.Dec.{leb}
+use borrow.Author.Tests.{le-leb, lt-leb}
+use Rattle.howmany.proofs.Choices.{is-false, holds}
 use Rattle.rules.specs.Jobs as rules
 use Rattle.rules.specs.Counts.{countOf}
 use Rattle.rules.specs.Points.{origin}
 use Rattle.rules.specs.Valid.{walks, Valid}
 use Rattle.rules.specs.Numbers.{numberOf}
 use Rattle.rules.specs.Blocks.{familyOf, square, jobAnswer}
-use Rattle.rules.specs.Refusals.{Refusal, Answer, check, refusalNumber}
-use Rattle.rules.specs.Refusals.Refusal.{kind, over, not-an-edge}
+use Rattle.rules.specs.Refusals.{Answer, check, refusalNumber}
+use Rattle.rules.specs.Refusals.Refusal.{over, not-an-edge}
 use Rattle.rules.specs.Refusals.Answer.{accepted, refused}
 use Rattle.rules.specs.Answers.{most, countAnswer, numberAnswer}
 use Rattle.rules.proofs.Demand3.{InRange}
@@ -30,21 +27,19 @@ use Rattle.rules.proofs.Answering.{known-told, count-told, count-fitted, number
 use Rattle.job.specs.Replies.{Reply, reply}
 use Rattle.job.specs.Replies.Reply.{value, refusal}
 use Rattle.job.specs.declared.Job.{Job}
-use Rattle.job.specs.Stands.{Stands}
 use Rattle.job.proofs.Standing.{Kept, Told}
 use Rattle.grid.specs.Form.{Form, W}
-use Rattle.grid.specs.Cells.{capBy, capOf}
+use Rattle.grid.specs.Cells.{capOf}
 use Rattle.grid.specs.Shapes.{Grids, Sound, Fits, Shaped}
 use Rattle.grid.specs.Edges as edges
 use Rattle.grid.specs.Numbering.{tableNumber}
 use Rattle.grid.specs.Shapes.Shaped.{worked, over as is-over, nothing}
 use Rattle.grid.specs.Calls.{forGrid}
 use Rattle.grid.specs.declared.shape.Shape.{Shape}
-use Rattle.grid.specs.declared.Answer as answers
 use Rattle.grid.specs.declared.Answer.the-variants.{Count, Over}
 use Rattle.grid.proofs.Laws.{cap-count, cap-over}
 use Rattle.grid.proofs.Worded.{shape-edge, shape-number}
-use Rattle.grid.proofs.Grounds.{grids-of, stands-range, shape-count}
+use Rattle.grid.proofs.Grounds.{grids-of, shape-count}
 
 pub record Working (J : rules.Job) (s : Shape) : Type 0 where
   pub form : Form (s .k) (s .f) (s .sa) (s .sc) (s .top) (s .ex) (s .ey)
@@ -132,7 +127,7 @@ table-is J s e r g w =
 
     go : (t : Bool) → walks J origin e ≡ t
         → check (leb (countOf J) most) over (check t not-an-edge (accepted n)) ≡ check (leb (countOf J) most) over (check t not-an-edge (accepted (numberOf J e)))
-    go true q = ap (λ (x : ℕ). check (leb (countOf J) most) over (accepted x)) (shape-number J s g r (w .fits) e (subst T (sym q) tt))
+    go true q = ap (λ (x : ℕ). check (leb (countOf J) most) over (accepted x)) (shape-number J s g r (w .fits) e (holds q))
     go false q = refl
 
 pub number-told-reply : (b : List ℕ) (e : List ℕ) (r : ℕ) → square (familyOf b) ≡ false → Told b r → refusal r ≡ reply (forGrid b (numberAnswer b e))

@@ -3,31 +3,27 @@
 --   grids-of          a job that isn't of family 2, 4 or 5 is one of the grid's
 --   end-count         the count of a job, by its own grid
 --   shape-count       the count of a job, by the grid of its shape
-use mathlib.Core.Path.{_≡_, refl, sym, ap, _∙_, subst}
-use mathlib.Core.Bool.{Bool, true, false, _||_}
-use mathlib.Core.List.{List}
-use Prim.Native.Nat.{ℕ, _<_}
-use native.Mathlib.Omega.{arith}
-use lib.Dec.{T, eqb}
-use lib.IntN.{ℤ, pos}
+use mathlib.Core.Path.{_≡_, refl, sym, _∙_, subst}
+use mathlib.Core.Bool.{Bool, true, false}
+use Prim.Native.Nat.{ℕ}
+use lib.Dec.{T}
+use lib.IntN.{pos}
 use lib.ListN.{getD}
 use borrow.Author.Tests.{eq-eqb}
-use Rattle.backward.specs.Grid.{Spot, Steps, paths}
+use Rattle.backward.specs.Grid.{Spot, paths}
 use Rattle.backward.proofs.Alike.{paths-alike}
 use Rattle.rules.specs.Jobs as rules
-use Rattle.rules.specs.Jobs.{Pair}
 use Rattle.rules.specs.Jobs.Job.{north-east, dyck, delannoy, schroder, motzkin, directed}
-use Rattle.rules.specs.Counts.{L, Dl, W as Wℤ, countOf}
-use Rattle.rules.specs.Shear.{gridOf, Corner, Slope}
+use Rattle.rules.specs.Counts.{countOf}
+use Rattle.rules.specs.Shear.{gridOf}
 use Rattle.rules.specs.Blocks.{square}
-use Rattle.rules.proofs.Sheared.{Shear}
 use Rattle.rules.proofs.Corners.{north-east-shear, delannoy-shear}
-use Rattle.rules.proofs.Slopes.{Small, slope-shear}
+use Rattle.rules.proofs.Slopes.{slope-shear}
 use Rattle.rules.proofs.Demand3.{InRange}
 use Rattle.job.specs.declared.Job.{Job}
 use Rattle.job.specs.Stands.{Stands}
-use Rattle.job.specs.Stands.Stands.{as-north-east, as-dyck, as-delannoy, as-schroder, as-motzkin, as-open, as-fenced}
-use Rattle.grid.specs.Form.{Form, stepsIn, spot, W}
+use Rattle.job.specs.Stands.Stands.{as-dyck, as-schroder, as-motzkin, as-open, as-fenced}
+use Rattle.grid.specs.Form.{spot, W}
 use Rattle.grid.specs.Shapes.{Grids, Sits, Fits}
 use Rattle.grid.specs.declared.shape.Shape.{Shape}
 use Rattle.grid.proofs.Shaping.{small}

@@ -6,17 +6,17 @@
 --   reads-at, stand-back         what can be read at a cell that stands before the end, and one step back
 --   read-in, read-is, read-more  the loop of `part_sum`
 --   Walking, walking-start, stepped, walking-end   the loop of `rank`
-use mathlib.Core.Path.{_≡_, refl, sym, ap, _∙_, subst}
+use mathlib.Core.Path.{_≡_, refl, sym, ap, _∙_}
 use mathlib.Core.Bool.{Bool, true, false}
 use mathlib.Core.List.{List, _∷_}
 use Prim.Native.Nat.{ℕ, _+_, _-_, _*_, _^_, _≤_, _<_}
 use native.Mathlib.Omega.{arith}
 use native.Mathlib.Decide.{decLe, decLt}
 use native.Mathlib.Nat.{mul-add, add-zero}
-use lib.Dec.{T}
 use lib.ListN.{length, getD}
 use Rattle.howmany.specs.Sum.{sum}
 use Rattle.howmany.proofs.Sums.{sum-cong, sum-mono, sum-below}
+use Rattle.howmany.proofs.Choices.{holds}
 use Rattle.backward.specs.Reader.{rank, count}
 use Rattle.backward.specs.Grid.{grid, paths}
 use Rattle.backward.proofs.Backward.{rank-below}
@@ -93,7 +93,7 @@ module _ (corner : Bool) (k f : ℕ) (sa sc e : List ℕ) where
     -- a valid edge's number is below the count
     pub num-below : (i x y : ℕ) → ok corner k f sa sc e i x y ≡ true → num corner k f sa sc e i x y < W k f sa sc x y
     unfolding num ok W paths
-    num-below i x y v = rank-below (grid (stepsIn k f sa sc)) (grid-lawful (stepsIn k f sa sc) pos) (wordTo (placeOf corner) e i) (endOf k f sa sc x y) (subst T (sym v) tt)
+    num-below i x y v = rank-below (grid (stepsIn k f sa sc)) (grid-lawful (stepsIn k f sa sc) pos) (wordTo (placeOf corner) e i) (endOf k f sa sc x y) (holds v)
 
 -- ---- a filled table
 

@@ -4,13 +4,12 @@
 --   first-in, begin-table, begin-small, begin-ready    `fast`, before its loop
 --   slow-fits, none-yet, inside-at, parts-of, part-more, slow-done    `slow`
 --   said                                   `total`, at a step
---   zeros                                  a table of zeros
 --   turn-none, turn-slow                   `turn`
 --   resume                                 flags put beside a table
 --   flagged-filled, got-filled             a table filled, with flags and without
 --   last-row, end-cells, end-room          the end's cell is there
 use mathlib.Core.Path.{_≡_, refl, sym, ap, _∙_}
-use mathlib.Core.Bool.{Bool, true, false, not}
+use mathlib.Core.Bool.{Bool}
 use mathlib.Core.List.{List}
 use Prim.Native.Nat.{ℕ, zero, suc, _+_, _*_, _^_, _≤_, _<_}
 use native.Mathlib.Omega.{arith}
@@ -19,6 +18,7 @@ use native.Mathlib.Nat.{add-mul, add-zero}
 use lib.ListN.{length, getD, set, length-set, replicate}
 use lib.Seq.{getD-set-same, getD-set-other}
 use borrow.Author.Tests.{ne-eqb}
+use Rattle.job.proofs.Puts.{zeros-at}
 use Rattle.howmany.specs.Sum.{sum}
 use Rattle.grid.specs.declared.Answer.{Answer}
 use Rattle.grid.specs.declared.Answer.the-variants.{Count}
@@ -141,11 +141,6 @@ said {val = val} {ov = ov} pa i l es er = er ∙ ap (cellAt val ov) es ∙ pa .s
 
 -- turn and rest
 
-pub zeros : (n j : ℕ) → _≡_ {A = ℕ} (getD (replicate n 0) j 0) 0
-zeros zero j = refl
-zeros (suc n) zero = refl
-zeros (suc n) (suc j) = zeros n j
-
 module _ {few : Bool} {k f : ℕ} {sa sc off : List ℕ} {hi m ex ey : ℕ} {val ov : List ℕ} {x : ℕ} (t : Turn few k f sa sc off hi m ex ey val ov x) {from to : ℕ} (fr : From f hi ex ey x from) (up : To hi ey x to) where
   pub turn-none : to ≤ from → Flagged k f sa sc hi m ex ey val ov (x + 1)
   turn-none l = sheet-same (t .ready .plan) (t .ready .offs) (t .table .cells) (t .start) (t .end) from to fr up (t .table .blank) l
@@ -155,7 +150,7 @@ module _ {few : Bool} {k f : ℕ} {sa sc off : List ℕ} {hi m ex ey : ℕ} {val
 
 module _ {k f : ℕ} {sa sc : List ℕ} {hi m ex ey : ℕ} (val : List ℕ) {x : ℕ} (r : Table k f sa sc hi m ex ey val x) (fits : (j : ℕ) → getD val j 0 < 2 ^ 64) where
   unflagged : (j : ℕ) → cellAt val (replicate 7040 0) j ≡ capOf (getD val j 0)
-  unflagged j = cell-zero (getD val j 0) _ (zeros 7040 j) ∙ sym (cap-lt _ (fits j))
+  unflagged j = cell-zero (getD val j 0) _ (zeros-at 7040 j) ∙ sym (cap-lt _ (fits j))
 
   pub resume : Flagged k f sa sc hi m ex ey val (replicate 7040 0) x
   resume = record {

@@ -4,39 +4,37 @@
 --   L-up, L-right, L-over        L grows, so it is above 64 bits where n and m are above 33; D is at least L
 --   corner-shaped                the shape of families 1 and 3
 --   directed-shaped              the shape of families 6 and 7
-use mathlib.Core.Path.{_≡_, refl, sym, ap, ap₂, _∙_, subst}
+use mathlib.Core.Path.{_≡_, refl, sym, _∙_}
 use mathlib.Core.Logic.{_⊎_, inl, inr}
 use mathlib.Core.Bool.{Bool, true, false, _&&_}
-use mathlib.Core.List.{List, [], _∷_}
+use mathlib.Core.List.{List}
 use Prim.Native.Nat.{ℕ, zero, suc, _+_, _*_, _-_, _^_, _≤_, _<_}
-use native.Mathlib.Decide.{decLt, decLe, le-ind, ℕ-discrete}
+use native.Mathlib.Decide.{decLt, le-ind, ℕ-discrete}
 use native.Mathlib.Nat.{not-suc-le-zero, mul-le-mul, le-trans, le-refl}
-use native.Mathlib.Numerals.{add-one}
 use native.Mathlib.Omega.{arith}
 use lib.Dec.{T, ltb, leb, eqb, leb→le, le→leb, eqb→eq, lit≤}
-use lib.IntN.{ℤ, pos, negsuc, _+ℤ_}
+use lib.IntN.{ℤ, pos, negsuc}
 use lib.ListN.{length, getD, set, replicate, length-set}
 use lib.Seq.{getD-set-same, getD-set-other}
-use borrow.Author.Tests.{lt-ltb, le-ltb, ltb-true, ltb-false}
-use Rattle.howmany.specs.Choose.{pick, bit}
+use borrow.Author.Tests.{lt-ltb, le-ltb}
+use Rattle.howmany.specs.Choose.{pick}
 use Rattle.howmany.proofs.Choices.{and-left, and-right}
 use Rattle.howmany.proofs.Cases.{two, three, eight}
-use Rattle.backward.specs.Grid.{Spot}
-use Rattle.rules.specs.Points.{leℤ, height}
+use Rattle.rules.specs.Points.{leℤ}
 use Rattle.rules.specs.Jobs as rules
-use Rattle.rules.specs.Jobs.{Pair, endOf}
+use Rattle.rules.specs.Jobs.{Pair}
 use Rattle.rules.specs.Jobs.Job.{north-east, dyck, delannoy, schroder, motzkin, directed}
 use Rattle.rules.specs.Valid.{Valid}
 use Rattle.rules.specs.Counts.{L, Dl, W, countOf, pairAt}
-use Rattle.rules.specs.Shear.{Is, lift, gridOf, Corner, Slope}
-use Rattle.rules.proofs.Signed.{is-shift, is-up, is-plus, is-lift}
+use Rattle.rules.specs.Shear.{Is, lift, gridOf, Slope}
+use Rattle.rules.proofs.Signed.{is-shift, is-up, is-lift, is-apart}
 use Rattle.rules.proofs.Sheared.{some-end}
 use Rattle.rules.proofs.Slopes.{Small, W-none, slope-shear}
 use Rattle.job.specs.declared.Job.{Job}
 use Rattle.job.specs.Stands.{Level, Directed, Stands}
 use Rattle.job.specs.Stands.Stands.{as-north-east, as-dyck, as-delannoy, as-schroder, as-motzkin, as-open, as-fenced}
-use Rattle.grid.specs.Form.{Form, spot}
-use Rattle.grid.specs.Shapes.{Grids, Sound, Sits, Fits, Shaped, ShapedFor, cornerState, cornerShape, Ranged, Laying, Laid}
+use Rattle.grid.specs.Form.{Form}
+use Rattle.grid.specs.Shapes.{Grids, Sound, Fits, Shaped, ShapedFor, cornerState, cornerShape, Ranged, Laying, Laid}
 use Rattle.grid.specs.Shapes.Shaped.{worked, over, nothing}
 use Rattle.grid.specs.declared.shape.Shape.{Shape}
 
@@ -203,11 +201,6 @@ steep : (z : ℤ) (p : ℕ) → Is z p 128 → 125 ≤ p → T (leℤ (negsuc 2)
 steep (pos a) p e l = tt
 steep (negsuc a) p e l = le→leb a 2 (omega arith)
 
--- no height is both reached and below all that are
-never : (z : ℤ) (y q t : ℕ) → Is z y q → Is z 0 (q + suc t) → ⊥
-never (pos a) y q t h l = omega arith
-never (negsuc a) y q t h l = omega arith
-
 module _ (j : Job) (fenced : Bool) (m : ℤ) (pairs : List Pair) (d : Directed j m pairs) where
   abbrev J : rules.Job
   J = directed fenced (j .n) m pairs
@@ -225,7 +218,7 @@ module _ (j : Job) (fenced : Bool) (m : ℤ) (pairs : List Pair) (d : Directed j
   no-edge : (t : ℕ) → Is m 0 (3 * j .n + suc t) → (e : List ℕ) → Valid J e → ⊥
   no-edge t h e v =
       let (q, a) = some-end J (gridOf J) (W fenced pairs) Slope (slope-shear fenced pairs small (j .n) m) e v in
-      never m (q .y) (3 * j .n) t (is-shift m (q .y) (3 * q .x) (q .y) (3 * j .n) (a .up) (omega (arith, a .across))) h
+      is-apart m (q .y) (3 * j .n) t (is-shift m (q .y) (3 * q .x) (q .y) (3 * j .n) (a .up) (omega (arith, a .across))) h
 
   module _ (s : Shape) (f : ℕ) (e : f ≡ pick fenced 3 0) (w : Laid j f s) where
     lifted : (i : ℕ) → i < j .k → getD (j .b) i 0 + 3 * getD (j .a) i 0 - 128 ≡ gridOf J .c i

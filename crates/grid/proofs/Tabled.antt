@@ -3,16 +3,15 @@
 --   table-over      the count needs more than 64 bits
 --   table-not       it fits, and the bytes are no edge
 --   table-number    it fits, and they are one
-use mathlib.Core.Path.{_≡_, refl, sym, ap, _∙_}
+use mathlib.Core.Path.{_≡_, refl, ap}
 use mathlib.Core.Bool.{Bool, true, false}
 use mathlib.Core.List.{List}
 use Prim.Native.Nat.{ℕ, _^_, _≤_, _<_}
 use native.Mathlib.Omega.{arith}
-use lib.Dec.{leb}
 use borrow.Author.Tests.{le-leb, lt-leb}
 use Rattle.rules.specs.Refusals.{refusalNumber}
 use Rattle.rules.specs.Answers.{most}
-use Rattle.job.specs.Replies.{Reply, reply}
+use Rattle.job.specs.Replies.{reply}
 use Rattle.job.specs.Replies.Reply.{value, refusal}
 use Rattle.grid.specs.Form.{W}
 use Rattle.grid.specs.Edges.{isEdge, numberOf}

@@ -8,26 +8,25 @@
 use mathlib.Core.Path.{_≡_, refl, sym, ap, ap₂, _∙_, subst}
 use mathlib.Core.Bool.{Bool, true, false, _&&_}
 use mathlib.Core.Option.{Option, none, some}
-use mathlib.Core.List.{List, [], _∷_, map, reverse, reverse-reverse}
+use mathlib.Core.List.{List, [], _∷_, map, reverse}
 use Prim.Native.Nat.{ℕ, zero, suc, _+_, _-_, _≤_, _<_}
-use native.Mathlib.Decide.{decLt, decLe, ℕ-discrete}
-use native.Mathlib.Nat.{not-suc-le-zero}
+use native.Mathlib.Decide.{decLt}
 use native.Mathlib.Omega.{arith}
-use lib.Dec.{T, ltb, eqb, lt→ltb}
+use lib.Dec.{T, ltb, eqb}
 use lib.IntN.{pos}
 use lib.ListN.{length, getD}
-use borrow.Author.Tests.{lt-ltb, le-ltb, eq-eqb, ne-eqb}
+use borrow.Author.Tests.{lt-ltb, le-ltb, ne-eqb}
 use Rattle.howmany.specs.Choose.{pick}
 use Rattle.howmany.specs.Sum.{sum}
 use Rattle.backward.specs.Reader.{Reader, Lawful, valid, count, rank, unrank}
 use Rattle.backward.specs.Walk.{enter}
 use Rattle.backward.specs.Grid.{Spot, Steps, grid, way, paths}
-use Rattle.backward.proofs.Backward.{letter, rest, unrank-built, Built}
+use Rattle.backward.proofs.Backward.{letter, rest, unrank-built}
 use Rattle.backward.proofs.Grids.{grid-lawful}
-use Rattle.backward.proofs.Alike.{grid-valid-alike, grid-rank-alike, grid-unrank-alike, grid-count-alike, paths-alike}
-use Rattle.rules.specs.Points.{Step, origin}
+use Rattle.backward.proofs.Alike.{grid-valid-alike, grid-rank-alike, grid-unrank-alike, grid-count-alike}
+use Rattle.rules.specs.Points.{origin}
 use Rattle.rules.specs.Jobs as rules
-use Rattle.rules.specs.Jobs.{Pair, one, numbered, stepsOf, endOf}
+use Rattle.rules.specs.Jobs.{Pair, one, numbered, stepsOf}
 use Rattle.rules.specs.Jobs.Job.{north-east, dyck, delannoy, schroder, motzkin, directed}
 use Rattle.rules.specs.Valid.{place, at, walks}
 use Rattle.rules.specs.Counts.{L, Dl, W as Wℤ, countOf}
@@ -35,16 +34,16 @@ use Rattle.rules.specs.Numbers.{raised}
 use Rattle.rules.specs.Numbers as numbers
 use Rattle.rules.specs.Shear.{gridOf, Corner, Slope}
 use Rattle.rules.proofs.Letters.{map-reverse}
-use Rattle.rules.proofs.Sheared.{Shear, walks-word, number-word, edge-word}
+use Rattle.rules.proofs.Sheared.{walks-word, number-word, edge-word}
 use Rattle.rules.proofs.Corners.{north-east-shear, delannoy-shear}
-use Rattle.rules.proofs.Slopes.{Small, digit-at, digit-place, numbered-length, slope-shear}
+use Rattle.rules.proofs.Slopes.{digit-at, digit-place, slope-shear}
 use Rattle.rules.proofs.Demand3.{InRange}
-use Rattle.grid.specs.Form.{Form, stepsIn, spot, W}
+use Rattle.grid.specs.Form.{spot}
 use Rattle.grid.specs.Letters.{placeOf, glyphOf}
 use Rattle.grid.specs.Edges as edges
 use Rattle.grid.specs.Shapes.{Grids, isCorner, Sits, Fits}
 use Rattle.grid.specs.declared.shape.Shape.{Shape}
-use Rattle.grid.proofs.Grounds.{end-count, shape-count}
+use Rattle.grid.proofs.Grounds.{end-count}
 
 data Agree (k x y : ℕ) : Type 0 where
   same : x ≡ y → Agree k x y
@@ -171,11 +170,8 @@ number-by (schroder n) r q s e t = absurd s
 number-by (motzkin n) r q s e t = absurd s
 number-by (directed f n m p) r q s e t = number-word (directed f n m p) (gridOf (directed f n m p)) (Wℤ f p) Slope (slope-shear f p r n m) q s e t
 
-pos-one : {m n : ℕ} → pos m ≡ pos n → m ≡ n
-pos-one e = cc
-
 corner-x : (n m : ℕ) (q : Spot) → Corner (record { x = n; y = pos m }) q → q .x ≤ n + m
-corner-x n m q c = omega (arith, c .across, pos-one (c .up))
+corner-x n m q c = let e : m ≡ q .y = cc in omega (arith, c .across)
 
 edge-by : (J : rules.Job) → InRange J → (q : Spot) → Sits J q → (n : ℕ) → n < paths (gridOf J) q
     → numbers.edgeOf J n ≡ map (λ i. at (stepsOf J) i .letter) (reverse (unrank (grid (gridOf J)) (enter (grid (gridOf J)) (way (gridOf J)) q) n))

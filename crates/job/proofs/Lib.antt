@@ -2,3 +2,4 @@ pub mod Blocks
 pub mod Makes
 pub mod Standing
 pub mod Puts
+pub mod Says

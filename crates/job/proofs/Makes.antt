@@ -3,8 +3,8 @@
 --   twenty-of, pairs-of                          a block that passes form has 20 bytes; one that passes size has at most eight pairs
 --   made-form, made-size, made-twin, made-job    the answer for each way through the tests
 use Prim.Native.Nat.{ℕ, _+_, _*_, _≤_, _<_}
-use mathlib.Core.Path.{_≡_, refl, ap, sym, _∙_, subst}
-use mathlib.Core.List.{List, [], _∷_}
+use mathlib.Core.Path.{_≡_, refl, ap, sym, _∙_}
+use mathlib.Core.List.{List}
 use mathlib.Core.Bool.{Bool, true, false, not, _&&_}
 use native.Mathlib.Decide.{decLe}
 use native.Mathlib.Omega.{arith}
@@ -14,17 +14,14 @@ use lib.ListN.{length, drop, getD}
 use lib.Seq.{drop-cons}
 use borrow.Author.Tests.{le-leb, lt-leb}
 use Rattle.howmany.specs.Choose.{pick}
-use Rattle.howmany.proofs.Choices.{and-left, and-right}
-use Rattle.rules.specs.Refusals.{Answer, check}
+use Rattle.howmany.proofs.Choices.{and-left, and-right, holds}
+use Rattle.rules.specs.Refusals.{check}
 use Rattle.rules.specs.Refusals.Refusal.{form, size, twin}
-use Rattle.rules.specs.Refusals.Answer.{accepted, refused}
+use Rattle.rules.specs.Refusals.Answer.{accepted}
 use Rattle.rules.specs.Refusals.{refusalNumber}
-use Rattle.rules.specs.Blocks.{familyOf, nOf, mOf, kOf, zeros, unused, formed, sized, sizedCorner, sizedDirected, small, used, between, twins, jobIn, jobAnswer}
+use Rattle.rules.specs.Blocks.{familyOf, nOf, mOf, kOf, zeros, formed, sized, sizedCorner, sizedDirected, small, used, between, twins, jobIn, jobAnswer}
 use Rattle.job.specs.Made.{Pairs, makes, madeOf, refusedBy, heldBy}
 use Rattle.job.proofs.Blocks.{formed-is, sized-is}
-
-holds : {b : Bool} → b ≡ true → T b
-holds e = subst T (sym e) tt
 
 pub twenty-of : (b : List ℕ) → formed b ≡ true → length b ≡ 20
 twenty-of b e = eqb→eq (length b) 20 (and-left (eqb (length b) 20) _ (holds (sym (formed-is b) ∙ e)))

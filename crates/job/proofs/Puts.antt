@@ -1,13 +1,14 @@
 -- Laws of an edge written to a lent output. Assumes nothing.
 --
 --   put-byte, copied-next    one byte more of a copy; copied-all: all of them
---   put-room, put-short    what is written, and that nothing is
+--   put-room, put-short      what is written, and that nothing is
+--   zeros-at                 each of a list of zeros
 use mathlib.Core.Path.{_≡_, refl, sym, ap, _∙_}
 use mathlib.Core.List.{List, [], _∷_, _++_}
-use Prim.Native.Nat.{ℕ, suc, _+_, _≤_, _<_}
+use Prim.Native.Nat.{ℕ, zero, suc, _+_, _≤_, _<_}
 use native.Mathlib.Numerals.{add-one}
 use native.Mathlib.Omega.{arith}
-use lib.ListN.{length, getD, take, drop, set}
+use lib.ListN.{length, getD, take, drop, set, replicate}
 use lib.Seq.{drop-cons, set-at, append-snoc, take-suc, take-length, length-take-le}
 use borrow.Author.Tests.{le-leb, lt-leb}
 use Rattle.rules.specs.Refusals.{refusalNumber}
@@ -37,3 +38,8 @@ put-room e out after l q = rw (le-leb (length e) (length out) l) (record { says 
 
 pub copied-all : (e out after : List ℕ) (i : ℕ) → i ≡ length e → after ≡ take i e ++ drop i out → after ≡ e ++ drop (length e) out
 copied-all e out after i q h = h ∙ rw q (ap (λ (z : List ℕ). z ++ drop (length e) out) (take-length e))
+
+pub zeros-at : (n i : ℕ) → _≡_ {A = ℕ} (getD (replicate n 0) i 0) 0
+zeros-at zero i = refl
+zeros-at (suc n) zero = refl
+zeros-at (suc n) (suc i) = zeros-at n i

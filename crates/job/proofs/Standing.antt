@@ -4,18 +4,18 @@
 --   Told b r         the block is refused with the number r
 --   made-kept        where no refusal is told, the job is kept
 --   made-told        where one is told, it is the block's; kept-of, told-of: the same of an answer in hand
-use Prim.Native.Nat.{ℕ, zero, suc, _+_, _*_, _≤_, _<_}
-use mathlib.Core.Path.{_≡_, refl, ap, sym, _∙_, subst}
-use mathlib.Core.List.{List, [], _∷_}
+use Prim.Native.Nat.{ℕ, _+_, _*_, _≤_, _<_}
+use mathlib.Core.Path.{_≡_, refl, ap, sym, _∙_}
+use mathlib.Core.List.{List, _∷_}
 use mathlib.Core.Bool.{Bool, true, false, not, _&&_, _||_}
 use native.Mathlib.Omega.{arith}
-use lib.Dec.{T, eqb, leb, eqb→eq, leb→le}
+use lib.Dec.{T, eqb, leb, leb→le}
 use lib.IntN.{ℤ, pos, negsuc}
-use lib.ListN.{length, take, drop, getD}
+use lib.ListN.{length, drop, getD}
 use lib.Seq.{getD-drop}
 use borrow.Author.Tests.{le-leb, lt-leb, eqb-true, eqb-false}
 use Rattle.howmany.specs.Choose.{pick}
-use Rattle.howmany.proofs.Choices.{and-left, and-right, is-true, is-false}
+use Rattle.howmany.proofs.Choices.{and-left, and-right, is-true, holds}
 use Rattle.howmany.proofs.Cases.{eight}
 use Rattle.rules.specs.Jobs as rules
 use Rattle.rules.specs.Jobs.{Pair}
@@ -50,10 +50,6 @@ pub record Told (b : List ℕ) (r : ℕ) : Type 0 where
   pub answer : jobAnswer b ≡ refused refusal
   pub number : r ≡ refusalNumber refusal
 
-holds : {b : Bool} → b ≡ true → T b
-holds e = subst T (sym e) tt
-
--- case by case over eight places
 height-is : (z : ℤ) (p : ℕ) → Is z p 128 → 128 ≤ p → height z + 128 ≡ p
 height-is (pos a) p e l = e
 height-is (negsuc a) p e l = absurd (omega arith)

@@ -1,62 +1,31 @@
 -- Laws of edges written one after the other, for any way g from a number to its edge. Assumes nothing.
 --
---   below-not, below-more, below-all    one of the numbers is not below the count; one more is; all are. below-at: each is, if all are
 --   room-few, room-for      what has_room answers; room-of: what that means
 --   Lining g ns i at ..    the edges of the first i numbers are written, and end at `at`
 --   lining-none, lining-next, lining-all    none of them, one more, all of them; lining-room, lining-part: there is room for one more
 --   lined-refused, lines-short, lines-room   a refusal; no room; room; lines-roomy: where there is room
-use mathlib.Core.Path.{_≡_, refl, sym, ap, ap₂, _∙_, subst}
-use mathlib.Core.Bool.{Bool, true, false, _&&_, true≢false}
-use mathlib.Core.List.{List, [], _∷_, _++_, map, append-nil, append-assoc}
-use Prim.Native.Nat.{ℕ, zero, suc, _+_, _*_, _-_, _/_, _≤_, _<_}
-use native.Mathlib.Decide.{decLt, decLe}
+use mathlib.Core.Path.{_≡_, refl, sym, ap, ap₂, _∙_}
+use mathlib.Core.Bool.{true, false}
+use mathlib.Core.List.{List, [], _∷_, _++_, map, append-nil, append-assoc, map-append}
+use Prim.Native.Nat.{ℕ, suc, _+_, _*_, _-_, _/_, _≤_, _<_}
+use native.Mathlib.Decide.{decLe}
 use native.Mathlib.Numerals.{add-one}
 use native.Mathlib.Omega.{arith}
-use lib.Dec.{T, leb, ltb, leb→le}
+use lib.Dec.{T, leb, leb→le}
 use lib.ListN.{length, getD, take, drop, set, length-append, length-drop, length-set, length-map, drop-of-length-le}
 use lib.Seq.{take-suc, take-length, length-take-le, take-at, drop-at, drop-drop, take-all}
 use borrow.Rule.Slice.PartMut.{putMid, same-len-mid}
-use borrow.Author.Tests.{le-leb, lt-leb, lt-ltb, le-ltb}
-use Rattle.howmany.proofs.Choices.{and-left, and-right}
+use borrow.Author.Tests.{le-leb, lt-leb}
+use Rattle.howmany.proofs.Choices.{and-left, and-right, holds}
 use Rattle.rules.specs.Refusals.{Answer, Refusal, refusalNumber}
 use Rattle.rules.specs.Refusals.Refusal.{room}
 use Rattle.rules.specs.Refusals.Answer.{accepted, refused}
 use Rattle.rules.specs.Packs.{joined}
-use Rattle.rules.specs.Questions.{allBelow}
 use Rattle.job.specs.declared.Built.{Built}
 use Rattle.job.specs.declared.Built.the-variants.{Length, Refused}
 use Rattle.job.specs.Replies.Reply.{value}
 use Rattle.job.proofs.Puts.{put-byte}
-use Rattle.lines.specs.Lines.{endsFrom, roomy, Room, Lined, lined, lines, LinedAs}
-
-pub below-not : (c : ℕ) (ns : List ℕ) (i : ℕ) → i < length ns → c ≤ getD ns i 0 → allBelow c ns ≡ false
-unfolding allBelow
-below-not c [] i l h = absurd (omega arith)
-below-not c (n ∷ ns) zero l h = rw (le-ltb n c h) refl
-below-not c (n ∷ ns) (suc i) l h = go (ltb n c) (below-not c ns i (omega arith) h)
-  where
-    go : (t : Bool) → allBelow c ns ≡ false → (t && allBelow c ns) ≡ false
-    go true e = e
-    go false e = refl
-
-pub below-all : (c : ℕ) (ns : List ℕ) → ((i : ℕ) → i < length ns → getD ns i 0 < c) → allBelow c ns ≡ true
-unfolding allBelow
-below-all c [] f = refl
-below-all c (n ∷ ns) f = rw (lt-ltb n c (f 0 (omega arith))) (below-all c ns (λ i l. f (suc i) (omega arith)))
-
-pub below-more : (ns : List ℕ) (i c : ℕ) → ((j : ℕ) → j < i → getD ns j 0 < c) → getD ns i 0 < c → (j : ℕ) → j < i + 1 → getD ns j 0 < c
-below-more ns i c f h j l = go (decLt j i)
-  where
-    go : Dec (j < i) → getD ns j 0 < c
-    go (yes k) = f j k
-    go (no k) = let q : i ≡ j = omega arith in subst (λ (z : ℕ). getD ns z 0 < c) q h
-
-pub below-at : (c : ℕ) (ns : List ℕ) → allBelow c ns ≡ true → (i : ℕ) → i < length ns → getD ns i 0 < c
-below-at c ns e i l = go (decLt (getD ns i 0) c)
-  where
-    go : Dec (getD ns i 0 < c) → getD ns i 0 < c
-    go (yes h) = h
-    go (no h) = absurd (true≢false (sym e ∙ below-not c ns i l (omega arith)))
+use Rattle.lines.specs.Lines.{endsFrom, roomy, Room, lined, lines, LinedAs}
 
 -- ---- room
 
@@ -72,7 +41,7 @@ room-for many steps ends l = go (decLe (128 * many) steps)
 
 pub room-of : (many steps ends : ℕ) → roomy many steps ends ≡ true → Room many steps ends
 room-of many steps ends e =
-    let t : T (roomy many steps ends) = subst T (sym e) tt in
+    let t : T (roomy many steps ends) = holds e in
     record {
       for-steps = leb→le (128 * many) steps (and-right (leb many ends) (leb (128 * many) steps) t);
       for-ends = leb→le many ends (and-left (leb many ends) (leb (128 * many) steps) t);
@@ -92,13 +61,9 @@ ends-snoc at (x ∷ es) e =
     let q : at + length x + length (joined es) + length e ≡ at + length (x ++ joined es) + length e = omega (arith, length-append x (joined es)) in
     ap (λ (z : List ℕ). (at + length x) ∷ z) (ends-snoc (at + length x) es e ∙ ap (λ (z : ℕ). endsFrom (at + length x) es ++ (z ∷ [])) q)
 
-map-snoc : (g : ℕ → List ℕ) (ns : List ℕ) (n : ℕ) → map g (ns ++ (n ∷ [])) ≡ map g ns ++ (g n ∷ [])
-map-snoc g [] n = refl
-map-snoc g (x ∷ ns) n = ap (λ (z : List (List ℕ)). g x ∷ z) (map-snoc g ns n)
-
 map-next : (g : ℕ → List ℕ) (ns : List ℕ) (i : ℕ) → i < length ns → map g (take (i + 1) ns) ≡ map g (take i ns) ++ (g (getD ns i 0) ∷ [])
 map-next g ns i l =
-    ap (λ (k : ℕ). map g (take k ns)) (add-one i) ∙ ap (map g) (take-suc ns i 0 l) ∙ map-snoc g (take i ns) (getD ns i 0)
+    ap (λ (k : ℕ). map g (take k ns)) (add-one i) ∙ ap (map g) (take-suc ns i 0 l) ∙ map-append g (take i ns) (getD ns i 0 ∷ [])
 
 pub length-ends : (at : ℕ) (es : List (List ℕ)) → length (endsFrom at es) ≡ length es
 unfolding endsFrom

@@ -1,14 +1,12 @@
 -- Replies and their refusal numbers, and the job of a block whose count fits. Assumes nothing.
 --
---   no-value, no-refusal          a reply isn't both
---   Refusing a                    the answer a is a refusal
---   answer-value, answer-refusal  an answer, from its reply
+--   Refusing a                    the answer a is a refusal; answer-refusal: from its reply
 --   code-value, code-refusal      its refusal number, from its reply
 --   refused-then                  a refusal stays one
 --   some-number                   no refusal has the number 0
 --   bytes-in                      the block of a pack has bytes
 --   Known b j                     the count of b fits, and j stands for its job; known-of: from the count and the maker's answer
-use mathlib.Core.Path.{_≡_, refl, ap, _∙_}
+use mathlib.Core.Path.{_≡_, refl, sym, ap, _∙_}
 use mathlib.Core.Bool.{Bool, true, false}
 use mathlib.Core.List.{List}
 use Prim.Native.Nat.{ℕ, _+_, _≤_, _<_}
@@ -32,6 +30,7 @@ use Rattle.job.specs.Made.{madeOf}
 use Rattle.job.specs.Stands.{Stands}
 use Rattle.job.specs.Replies.{reply}
 use Rattle.job.specs.Replies.Reply.{value, refusal}
+use Rattle.job.proofs.Says.{value-not, answer-value}
 use Rattle.job.proofs.Standing.{Bytes, Kept, kept-of, told-of}
 use Rattle.job.specs.Parts.{refusalIn}
 
@@ -42,26 +41,15 @@ pub record Refusing {A : Type 0} (a : Answer A) : Type 0 where
   pub answer : a ≡ refused refusal
 
 module _ {A : Type 0} where
-  pub no-value : (a : A) (x : Refusal) → value a ≡ reply {A = A} (refused x) → ⊥
-  no-value a x e = let z : _≡_ {A = ℕ} 0 1 = cc in omega arith
-
-  pub no-refusal : (a : A) (r : ℕ) → refusal r ≡ reply (accepted a) → ⊥
-  no-refusal a r e = let z : _≡_ {A = ℕ} 0 1 = cc in omega arith
-
-  pub answer-value : (a : Answer A) (v : A) → value v ≡ reply a → a ≡ accepted v
-  answer-value (accepted x) v e = cc
-  answer-value (refused x) v e = absurd (no-value v x e)
-
   pub answer-refusal : (a : Answer A) (r : ℕ) → refusal r ≡ reply a → Refusing a
-  answer-refusal (accepted x) r e = absurd (no-refusal x r e)
+  answer-refusal (accepted x) r e = absurd (value-not (sym e))
   answer-refusal (refused x) r e = record { refusal = x; answer = refl }
 
   pub code-value : (a : Answer A) (v : A) → value v ≡ reply a → 0 ≡ refusalIn a
-  code-value (accepted x) v e = refl
-  code-value (refused x) v e = absurd (no-value v x e)
+  code-value a v e = sym (ap refusalIn (answer-value a v e))
 
   pub code-refusal : (a : Answer A) (r : ℕ) → refusal r ≡ reply a → r ≡ refusalIn a
-  code-refusal (accepted x) r e = absurd (no-refusal x r e)
+  code-refusal (accepted x) r e = absurd (value-not (sym e))
   code-refusal (refused x) r e = cc
 
   pub refused-then : {B : Type 0} (a : Answer A) (f : A → Answer B) (r : ℕ) → r ≡ refusalIn a → (r ≡ 0 → ⊥) → refusal r ≡ reply (andThen a f)
@@ -98,7 +86,7 @@ pub record Known (b : List ℕ) (j : Job) : Type 0 where
 
 module _ (b : List ℕ) (n : ℕ) (v : value n ≡ reply (countAnswer b)) where
   uncounted : (x : Refusal) → countAnswer b ≡ refused x → ⊥
-  uncounted x e = no-value n x (v ∙ ap reply e)
+  uncounted x e = value-not (v ∙ ap reply e)
 
   fitting : (J : rules.Job) (t : Bool) → leb (countOf J) most ≡ t → countAnswer b ≡ check t over (accepted (countOf J)) → countOf J ≤ most
   fitting J true e q = leb-true (countOf J) most e

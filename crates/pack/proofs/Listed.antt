@@ -1,41 +1,32 @@
 -- Laws of the edges of a pack as a list. Assumes nothing.
 --
 --   edge-is                    edge i, as the part between its offsets
---   edges-length, edge-of      how many there are, and each
+--   edge-of                    one of the list
 --   equals-is                  two of them are the same bytes
 --   validFrom J c i            the edges from i on, of c, are valid
 --   valid-all                  from 0 on: all are; valid-on, valid-off, valid-end: one edge more
 use mathlib.Core.Path.{_≡_, refl, ap, sym, _∙_}
 use mathlib.Core.Bool.{Bool, true, false, _&&_}
 use mathlib.Core.List.{List, []}
-use Prim.Native.Nat.{ℕ, zero, suc, _+_, _-_, _≤_, _<_}
+use Prim.Native.Nat.{ℕ, suc, _+_, _-_, _≤_, _<_}
+use native.Mathlib.Nat.{zero-add}
 use native.Mathlib.Numerals.{add-one}
 use native.Mathlib.Omega.{arith}
-use lib.ListN.{length, getD}
+use lib.ListN.{getD}
 use Rattle.rules.specs.Points.{origin}
 use Rattle.rules.specs.Jobs.{Job}
 use Rattle.rules.specs.Valid.{walks}
 use Rattle.rules.specs.Packs.{partOf, offset, edgeIn, edgesFrom, sameBytes}
 use Rattle.rules.specs.Questions.{allValid, equals}
+use Rattle.rules.proofs.PackLaws.{edges-at}
 
 module _ (p : List ℕ) where
   pub edge-is : (i : ℕ) → partOf p (offset p i) (offset p (i + 1)) ≡ edgeIn p i
   unfolding edgeIn
   edge-is i = refl
 
-  pub edges-length : (i n : ℕ) → length (edgesFrom p i n) ≡ n
-  unfolding edgesFrom
-  edges-length i zero = refl
-  edges-length i (suc n) = ap suc (edges-length (suc i) n)
-
-  edges-at : (i n k : ℕ) → k < n → getD (edgesFrom p i n) k [] ≡ edgeIn p (i + k)
-  unfolding edgesFrom
-  edges-at i zero k l = absurd (omega arith)
-  edges-at i (suc n) zero l = let q : i ≡ i + 0 = omega arith in ap (edgeIn p) q
-  edges-at i (suc n) (suc k) l = let q : suc i + k ≡ i + suc k = omega arith in edges-at (suc i) n k (omega arith) ∙ ap (edgeIn p) q
-
   edge-of : (c i : ℕ) → i < c → getD (edgesFrom p 0 c) i [] ≡ edgeIn p i
-  edge-of c i l = let q : 0 + i ≡ i = omega arith in edges-at 0 c i l ∙ ap (edgeIn p) q
+  edge-of c i l = edges-at p 0 c i i (zero-add i) l
 
   pub equals-is : (c i j : ℕ) → i < c → j < c → equals (edgesFrom p 0 c) i j ≡ sameBytes (edgeIn p i) (edgeIn p j)
   equals-is c i j l m = rw (edge-of c i l, edge-of c j m)

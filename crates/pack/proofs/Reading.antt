@@ -18,7 +18,6 @@ use lib.Dec.{ltb}
 use lib.ListN.{length}
 use borrow.Author.Tests.{lt-ltb, le-ltb}
 use Rattle.rules.specs.Jobs as rules
-use Rattle.rules.specs.Counts.{countOf}
 use Rattle.rules.specs.Refusals.{Answer, check, andThen, refusalNumber}
 use Rattle.rules.specs.Refusals.Refusal.{not-an-edge, bad-pack, no-such-edge}
 use Rattle.rules.specs.Refusals.Answer.{accepted, refused}
@@ -26,15 +25,16 @@ use Rattle.rules.specs.Answers.{knownJob, countAnswer}
 use Rattle.rules.specs.Packs.{Pack, packOf, laid, blockIn, countIn, offset}
 use Rattle.rules.specs.Questions.{readAnswer, allValid, Part, partAnswer, twiceIn, repeatAnswer}
 use Rattle.rules.proofs.Answering.{count-told, count-known}
+use Rattle.rules.proofs.PackLaws.{edges-length}
 use Rattle.job.specs.declared.Job.{Job}
 use Rattle.job.specs.Replies.{reply}
 use Rattle.job.specs.Replies.Reply.{value, refusal}
+use Rattle.job.proofs.Says.{value-not, value-one}
 use Rattle.pack.specs.Layout.{Laid, edgesIn}
 use Rattle.job.specs.Parts.{refusalIn}
 use Rattle.pack.specs.Validity.{AllWalkAs}
 use Rattle.pack.proofs.Layouts.{laid-of}
-use Rattle.pack.proofs.Listed.{edges-length}
-use Rattle.pack.proofs.Knowing.{no-value, no-refusal, code-refusal, refused-then, some-number, Known}
+use Rattle.pack.proofs.Knowing.{code-refusal, refused-then, some-number, Known}
 
 module _ (p : List ℕ) where
   abbrev packIn : Pack
@@ -62,7 +62,7 @@ module _ (p : List ℕ) where
   read-told e r f = go (knownJob (blockIn p)) refl
     where
       go : (a : Answer rules.Job) → knownJob (blockIn p) ≡ a → r ≡ refusalIn (readAnswer p)
-      go (accepted J) q = absurd (no-refusal (countOf J) r (f ∙ ap reply (count-known (blockIn p) J q)))
+      go (accepted J) q = absurd (value-not (sym (f ∙ ap reply (count-known (blockIn p) J q))))
       go (refused x) q = code-refusal (countAnswer (blockIn p)) r f ∙ ap refusalIn (count-told (blockIn p) x q) ∙ sym (ap refusalIn (read-known e (refused x) q))
 
   module _ {j : Job} (e : laid p ≡ true) (k : Known (blockIn p) j) where
@@ -138,11 +138,10 @@ module _ (p : List ℕ) where
     where
       lies : Read → Dec (i < countIn p) → Inside q
       lies h (yes l) =
-          let same : value q ≡ value (partIn i) = e ∙ ap reply (part-at i h l) in
           let w = h .layout .edge i l in
-          subst Inside (cc) (record { rise = w .rise; within = w .within })
-      lies h (no l) = absurd (no-value q no-such-edge (e ∙ ap reply (part-beyond i h (omega arith))))
+          subst Inside (sym (value-one (e ∙ ap reply (part-at i h l)))) (record { rise = w .rise; within = w .within })
+      lies h (no l) = absurd (value-not (e ∙ ap reply (part-beyond i h (omega arith))))
 
       go : Dec (refusalIn (readAnswer p) ≡ 0) → Inside q
       go (yes z) = lies (read-of (refusalIn (readAnswer p)) refl z) (decLt i (countIn p))
-      go (no f) = absurd (let r = e ∙ sym (part-refused i (refusalIn (readAnswer p)) refl f) in let z : _≡_ {A = ℕ} 0 1 = cc in omega arith)
+      go (no f) = absurd (value-not (e ∙ sym (part-refused i (refusalIn (readAnswer p)) refl f)))

@@ -12,14 +12,13 @@ use mathlib.Core.Path.{_≡_, refl, sym, ap, ap₂, _∙_, subst}
 use mathlib.Core.Logic.{_⊎_, inl, inr}
 use mathlib.Core.Bool.{Bool, true, false, _&&_, and-false}
 use mathlib.Core.List.{List, [], _∷_}
-use Prim.Native.Nat.{ℕ, zero, suc, _+_, _-_, _*_, _≤_, _<_}
+use Prim.Native.Nat.{ℕ, suc, _+_, _-_, _*_, _≤_, _<_}
 use native.Mathlib.Numerals.{add-one}
 use native.Mathlib.Decide.{decLe, decLt, ℕ-discrete}
-use native.Mathlib.Nat.{not-suc-le-zero}
 use native.Mathlib.Omega.{arith}
 use lib.Dec.{leb, ltb, eqb}
 use lib.IntN.{ℤ, pos, negsuc, subℕ, _+ℤ_}
-use lib.ListN.{length, getD, drop}
+use lib.ListN.{length, getD, drop, drop-of-length-le}
 use lib.Seq.{drop-cons}
 use borrow.Author.Tests.{lt-ltb, le-ltb, le-leb, lt-leb, eq-eqb, ne-eqb}
 use Rattle.howmany.specs.Choose.{pick}
@@ -238,13 +237,7 @@ module _ {family k : ℕ} {a b : List ℕ} {n up : ℕ} {e : List ℕ} {x h i : 
   module _ (t : length e ≤ i) where
     ended : (J : rules.Job) → Stepped family k a b n up J → eqb x n && eqb h up ≡ walks J origin e
     unfolding walks
-    ended J s = sym (spot-end s x h) ∙ (ap (walks J (spot x h)) (sym (drop-none i e t)) ∙ w .onward J s)
-      where
-        drop-none : (i : ℕ) (e : List ℕ) → length e ≤ i → drop i e ≡ []
-        drop-none zero [] l = refl
-        drop-none (suc i) [] l = refl
-        drop-none zero (b ∷ e) l = absurd (not-suc-le-zero l)
-        drop-none (suc i) (b ∷ e) l = drop-none i e (omega arith)
+    ended J s = sym (spot-end s x h) ∙ (ap (walks J (spot x h)) (sym (drop-of-length-le e {i = i} t)) ∙ w .onward J s)
 
     pub not-there : x < n → StepsFor family k a b n up e false
     not-there o J s = sym (ap (λ (t : Bool). t && eqb h up) (ne-eqb x n (λ q. omega arith))) ∙ ended J s

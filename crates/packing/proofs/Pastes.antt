@@ -9,11 +9,11 @@
 --   pack-short, pack-put    no room for the pack; the pack, put part by part
 use mathlib.Core.Path.{_≡_, refl, sym, ap, ap₂, _∙_}
 use mathlib.Core.List.{List, [], _∷_, _++_, append-nil, append-assoc}
-use Prim.Native.Nat.{ℕ, suc, _+_, _-_, _*_, _/_, _%_, _≤_, _<_}
+use Prim.Native.Nat.{ℕ, _+_, _-_, _*_, _/_, _%_, _≤_, _<_}
 use native.Mathlib.Numerals.{add-one}
 use native.Mathlib.Omega.{arith}
-use lib.ListN.{length, getD, take, drop, set, length-append, length-drop, length-set, take-append-drop, drop-of-length-le}
-use lib.Seq.{take-at, drop-at, take-all, take-suc, length-take-le, drop-drop, drop-append-add}
+use lib.ListN.{length, getD, take, drop, set, length-append, length-drop, take-append-drop, drop-of-length-le}
+use lib.Seq.{take-at, take-all, take-suc, length-take-le, drop-drop, drop-append-add}
 use borrow.Rule.Slice.PartMut.{putMid}
 use borrow.Author.Tests.{le-leb}
 use Rattle.rules.specs.Refusals.Answer.{accepted}
@@ -23,7 +23,7 @@ use Rattle.job.specs.Replies.{BuiltAs}
 use Rattle.job.specs.declared.Built.{Built}
 use Rattle.job.specs.declared.Built.the-variants.{Length, Refused}
 use Rattle.job.proofs.Puts.{put-byte, put-short, put-room}
-use Rattle.packing.specs.Packing.{pasted, frontOf, offsetsOf, packFrom, Packed}
+use Rattle.packing.specs.Packing.{pasted, frontOf, offsetsOf, packFrom}
 
 pub length-pasted : (L s : List ℕ) (at : ℕ) → at + length s ≤ length L → length (pasted L at s) ≡ length L
 length-pasted L s at h =

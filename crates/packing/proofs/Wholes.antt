@@ -6,58 +6,36 @@
 --   from-ends        a pack by where its edges end is the pack of the edges
 --   Whole, whole-of  what was lined up
 --   whole-built, whole-refused    the pack put to the output; the refusal
-use mathlib.Core.Path.{_≡_, refl, sym, ap, ap₂, _∙_, subst}
-use mathlib.Core.Bool.{Bool, true, false}
-use mathlib.Core.List.{List, [], _∷_, _++_, map, append-assoc}
+use mathlib.Core.Path.{_≡_, refl, sym, ap, ap₂, _∙_}
+use mathlib.Core.List.{List, [], _∷_, _++_, append-assoc}
 use Prim.Native.Nat.{ℕ, zero, suc, _+_, _*_, _≤_, _<_}
 use native.Mathlib.Omega.{arith}
-use lib.Dec.{leb}
 use lib.ListN.{length, getD, take, drop, length-append, length-map}
 use lib.Seq.{take-at}
 use borrow.Author.Tests.{le-leb, lt-leb}
 use Rattle.rules.specs.Jobs.{Job}
 use Rattle.rules.specs.Counts.{countOf}
 use Rattle.rules.specs.Numbers.{edgeOf}
-use Rattle.rules.specs.Blocks.{formed, sized, twins, used, jobIn, jobAnswer}
-use Rattle.rules.specs.Refusals.{Answer, Refusal, check, andThen, refusalNumber}
-use Rattle.rules.specs.Refusals.Refusal.{form, many, beyond}
+use Rattle.rules.specs.Refusals.{Answer, andThen, refusalNumber}
+use Rattle.rules.specs.Refusals.Refusal.{many}
 use Rattle.rules.specs.Refusals.Answer.{accepted, refused}
 use Rattle.rules.specs.Answers.{knownJob, countAnswer, written}
 use Rattle.rules.specs.Packs.{mark, two, joined, offsets, packBytes}
-use Rattle.rules.specs.Questions.{allBelow, edgesAnswer, packedAnswer, packAnswer}
-use Rattle.rules.proofs.Answering.{known-told, edges-told}
-use Rattle.job.specs.Replies.{Reply, reply, countSays, buildSays, BuiltAs}
+use Rattle.rules.specs.Questions.{edgesAnswer, packedAnswer, packAnswer}
+use Rattle.rules.proofs.Answering.{edges-told}
+use Rattle.rules.proofs.Demand3.{then-passed}
+use Rattle.rules.proofs.Hence.{known-job}
+use Rattle.rules.proofs.Packed.{whole-block, edges-of}
+use Rattle.job.specs.Replies.{reply, countSays, buildSays, BuiltAs}
 use Rattle.job.specs.Replies.Reply.{value, refusal}
 use Rattle.job.specs.declared.Built.{Built}
 use Rattle.job.specs.declared.Built.the-variants.{Length, Refused}
 use Rattle.job.specs.declared.Counted.{Counted}
 use Rattle.job.specs.declared.Counted.the-variants.{Count, Refused as CountRefused}
-use Rattle.job.proofs.Makes.{twenty-of}
+use Rattle.job.proofs.Says.{value-one, value-not}
 use Rattle.lines.specs.Lines.{Room, endsFrom, lined, lines, LinedAs}
 use Rattle.lines.proofs.Lining.{lines-roomy, length-ends}
 use Rattle.packing.specs.Packing.{frontOf, offsetsOf, packFrom, Packed, tooMany, TooMany}
-
-abbrev of-answer : Answer (List (List ℕ)) → List (List ℕ)
-of-answer (accepted es) = es
-of-answer (refused r) = []
-
-accepted-one : (es fs : List (List ℕ)) → _≡_ {A = Answer (List (List ℕ))} (accepted es) (accepted fs) → es ≡ fs
-accepted-one es fs e = ap of-answer e
-
-abbrev IsAccepted : Answer (List (List ℕ)) → Type 0
-IsAccepted (accepted es) = Unit {0}
-IsAccepted (refused r) = ⊥
-
-told-not : (es : List (List ℕ)) (r : Refusal) → accepted es ≡ refused r → ⊥
-told-not es r e = subst IsAccepted e tt
-
-abbrev value-of : Reply ℕ → ℕ
-value-of (value v) = v
-value-of (refusal r) = 0
-
-abbrev IsValue : Reply ℕ → Type 0
-IsValue (value v) = Unit {0}
-IsValue (refusal r) = ⊥
 
 -- ---- the number of numbers
 
@@ -84,14 +62,14 @@ module _ (b ns : List ℕ) where
     where
       go : (a : Answer Job) → value v ≡ reply (andThen a (λ J. accepted (countOf J))) → refusal 10 ≡ reply {A = ℕ} (andThen a (λ J. refused many))
       go (accepted J) q = refl
-      go (refused y) q = absurd (subst IsValue q tt)
+      go (refused y) q = absurd (value-not q)
 
   pub many-told : (x : Counted) (r : ℕ) → x ≡ CountRefused r → countSays x ≡ reply (countAnswer b) → refusal r ≡ reply (tooMany b)
   unfolding countAnswer
   many-told x r e h = go (knownJob b) (sym (ap countSays e) ∙ h)
     where
       go : (a : Answer Job) → refusal r ≡ reply (andThen a (λ J. accepted (countOf J))) → refusal r ≡ reply {A = ℕ} (andThen a (λ J. refused many))
-      go (accepted J) q = absurd (subst IsValue (sym q) tt)
+      go (accepted J) q = absurd (value-not (sym q))
       go (refused y) q = q
 
   pub packed-few : length ns ≤ 200 → packedAnswer b ns ≡ andThen (edgesAnswer b ns) (λ es. accepted (packBytes b es))
@@ -102,29 +80,12 @@ module _ (b ns : List ℕ) where
       go (accepted J) e = refl
       go (refused x) e = sym (ap (λ (a : Answer (List (List ℕ))). andThen a (λ es. accepted (packBytes b es))) (edges-told b ns x e))
 
-  -- as many edges as numbers
-  edges-many : (es : List (List ℕ)) → edgesAnswer b ns ≡ accepted es → length es ≡ length ns
+  -- as many edges as numbers, of a block of 20 bytes
+  edges-many : (es : List (List ℕ)) → edgesAnswer b ns ≡ accepted es → (length es ≡ length ns) × (length b ≡ 20)
   unfolding edgesAnswer
-  edges-many es e = go (knownJob b) e
-    where
-      by : (J : Job) (t : Bool) → check t beyond (accepted (map (edgeOf J) ns)) ≡ accepted es → length es ≡ length ns
-      by J true q = sym (ap length (accepted-one _ _ q)) ∙ length-map ns (edgeOf J)
-      by J false q = absurd (told-not es beyond (sym q))
-
-      go : (a : Answer Job) → andThen a (λ J. check (allBelow (countOf J) ns) beyond (accepted (map (edgeOf J) ns))) ≡ accepted es → length es ≡ length ns
-      go (accepted J) q = by J (allBelow (countOf J) ns) q
-      go (refused x) q = absurd (told-not es x (sym q))
-
-  -- a block whose edges are answered has 20 bytes
-  edges-twenty : (es : List (List ℕ)) → edgesAnswer b ns ≡ accepted es → length b ≡ 20
-  unfolding jobAnswer
-  edges-twenty es e = go (formed b) refl
-    where
-      go : (t : Bool) → formed b ≡ t → length b ≡ 20
-      go true f = twenty-of b f
-      go false f =
-          let j : jobAnswer b ≡ refused form = rw f refl in
-          absurd (told-not es form (sym e ∙ edges-told b ns form (known-told b form j)))
+  edges-many es e =
+      let (J, known, q) = then-passed (knownJob b) _ es e in
+      (sym (ap length (edges-of b J known ns es e .1)) ∙ length-map ns (edgeOf J), whole-block b J (known-job b J known .job))
 
 -- ---- ends and offsets
 
@@ -172,10 +133,10 @@ module _ (b ns steps ends : List ℕ) (room : Room (length ns) (length steps) (l
   whole-of x n s t q w short = go (edgesAnswer b ns) refl (lines-roomy (edgesAnswer b ns) ns steps ends (Length n) s t room (rw q at w))
     where
       go : (a : Answer (List (List ℕ))) → edgesAnswer b ns ≡ a → LinedAs (lined a steps ends) (Length n) s t → Whole b ns s t n
-      go (refused y) e v = absurd (subst IsValue (v .says) tt)
+      go (refused y) e v = absurd (value-not (v .says))
       go (accepted es) e v =
-          let long : n ≡ length (joined es) = ap value-of (v .says) in
-          let c : length es ≡ length ns = edges-many b ns es e in
+          let long : n ≡ length (joined es) = value-one (v .says) in
+          let (c, twenty) = edges-many b ns es e in
           let l : length (endsFrom 0 es) ≡ length ns = length-ends 0 es ∙ c in
           let fits : n ≤ length s = omega (arith, ap length (v .bytes), length-append (joined es) (drop (length (joined es)) steps)) in
           let S : take n s ≡ joined es = ap (take n) (v .bytes) ∙ take-at (joined es) (drop (length (joined es)) steps) n (sym long) in
@@ -189,7 +150,7 @@ module _ (b ns steps ends : List ℕ) (room : Room (length ns) (length steps) (l
             many = omega (arith, ap length (v .places), length-append (endsFrom 0 es) (drop (length es) ends));
             ends = E;
             packed = record {
-              twenty = edges-twenty b ns es e;
+              twenty = twenty;
               few = omega arith;
               short = omega (arith, ap length S);
               within = λ i h. omega (arith, ap (λ (l : List ℕ). getD l i 0) E, ends-within 0 es i (omega arith));
@@ -208,5 +169,5 @@ module _ (b ns steps ends : List ℕ) (room : Room (length ns) (length steps) (l
       rw (pack-is b ns out, packed-few b ns few) (go (edgesAnswer b ns) (lines-roomy (edgesAnswer b ns) ns steps ends (Refused r) s t room (rw q at w)))
     where
       go : (a : Answer (List (List ℕ))) → LinedAs (lined a steps ends) (Refused r) s t → BuiltAs (written (andThen a (λ es. accepted (packBytes b es))) out) (Refused r) out
-      go (accepted es) v = absurd (subst IsValue (sym (v .says)) tt)
+      go (accepted es) v = absurd (value-not (sym (v .says)))
       go (refused y) v = record { says = v .says; output = refl }

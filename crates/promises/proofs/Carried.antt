@@ -23,10 +23,10 @@ use Rattle.rules.specs.Valid.{Valid}
 use Rattle.rules.specs.Order.{Before}
 use Rattle.rules.specs.Counts.{countOf}
 use Rattle.rules.specs.Numbers.{numberOf, edgeOf}
-use Rattle.rules.specs.Refusals.{Answer, Refusal, refusalNumber}
-use Rattle.rules.specs.Refusals.Refusal.{not-an-edge, beyond, room}
+use Rattle.rules.specs.Refusals.{Answer, refusalNumber}
+use Rattle.rules.specs.Refusals.Refusal.{beyond, room}
 use Rattle.rules.specs.Refusals.Answer.{accepted, refused}
-use Rattle.rules.specs.Answers.{knownJob, countAnswer, numberAnswer, edgeAnswer, written, buildAnswer, Written}
+use Rattle.rules.specs.Answers.{knownJob, countAnswer, numberAnswer, edgeAnswer, written, Written}
 use Rattle.rules.proofs.Answering.{count-told, count-known, build-of}
 use Rattle.rules.proofs.Demand3.{accepted-one, demand-3}
 use Rattle.howmany.specs.Choose.{pick}
@@ -35,23 +35,10 @@ use Rattle.job.specs.declared.Numbered.{Numbered}
 use Rattle.job.specs.declared.Numbered.the-variants.{Number, Refused as NumberRefused}
 use Rattle.job.specs.declared.Built.{Built}
 use Rattle.job.specs.declared.Built.the-variants.{Length, Refused as BuildRefused}
-use Rattle.job.specs.Replies.{Reply, reply, numberSays, buildSays, BuiltAs}
-use Rattle.job.specs.Replies.Reply.{value, refusal}
+use Rattle.job.specs.Replies.{reply, BuiltAs}
+use Rattle.job.proofs.Says.{value-not, answer-value}
 use Rattle.promises.specs.Contracts.{Numbers, Builds, Accepted}
 use Rattle.promises.proofs.One.{numbered-one, says-one}
-
-IsValue : Reply ℕ → Type 0
-IsValue (value v) = Unit {0}
-IsValue (refusal k) = ⊥
-
-value-not : (v k : ℕ) → value v ≡ refusal k → ⊥
-unfolding IsValue
-value-not v k e = subst IsValue e tt
-
--- a value was accepted
-taken : (a : Answer ℕ) (v : ℕ) → value v ≡ reply a → a ≡ accepted v
-taken (accepted u) v e = cc
-taken (refused r) v e = absurd (value-not v (refusalNumber r) e)
 
 -- what was written of an edge: its length, and its bytes at the output's front
 pub record Put (a : Answer (List ℕ)) (output : List ℕ) (l : ℕ) (after : List ℕ) : Type 0 where
@@ -62,12 +49,12 @@ pub record Put (a : Answer (List ℕ)) (output : List ℕ) (l : ℕ) (after : Li
 
 pub put-of : (a : Answer (List ℕ)) (output after : List ℕ) (l : ℕ) → BuiltAs (written a output) (Length l) after → Put a output l after
 unfolding written
-put-of (refused r) output after l h = absurd (value-not l (refusalNumber r) (h .says))
+put-of (refused r) output after l h = absurd (value-not (h .says))
 put-of (accepted e) output after l h = go (leb (length e) (length output)) h
   where
     go : (t : Bool) → BuiltAs (pick t (record { answer = accepted (length e); output = e ++ drop (length e) output }) (record { answer = refused room; output = output })) (Length l) after → Put (accepted e) output l after
-    go true h = record { edge = e; is = refl; long = accepted-one _ _ (taken (accepted (length e)) l (h .says)); bytes = h .output }
-    go false h = absurd (value-not l (refusalNumber room) (h .says))
+    go true h = record { edge = e; is = refl; long = accepted-one _ _ (answer-value (accepted (length e)) l (h .says)); bytes = h .output }
+    go false h = absurd (value-not (h .says))
 
 -- an edge that is to be written is written, or refused with 7
 written-or : (e output after : List ℕ) (x : Built) → BuiltAs (written (accepted e) output) x after → (x ≡ Length (length e)) ⊎ (x ≡ BuildRefused 7)
@@ -90,8 +77,8 @@ module _ (b : List ℕ) (c : ℕ) (ok : Accepted b c) where
   stood = go (knownJob b) refl
     where
       go : (a : Answer Job) → knownJob b ≡ a → Stands b c
-      go (accepted J) e = record { job = J; known = e; count = accepted-one _ _ (sym (count-known b J e) ∙ taken (countAnswer b) c ok) }
-      go (refused r) e = absurd (value-not c (refusalNumber r) (ok ∙ ap reply (count-told b r e)))
+      go (accepted J) e = record { job = J; known = e; count = accepted-one _ _ (sym (count-known b J e) ∙ answer-value (countAnswer b) c ok) }
+      go (refused r) e = absurd (value-not (ok ∙ ap reply (count-told b r e)))
 
   pub number-valid : (e : List ℕ) (s : Numbered) → Valid (stood .job) e → Numbers b e s
       → (r : ℕ) × (s ≡ Number r) × (r < c) × HowMany (λ f. Valid (stood .job) f × Before (stood .job) f e) r
@@ -105,7 +92,7 @@ module _ (b : List ℕ) (c : ℕ) (ok : Accepted b c) where
   number-invalid e s v h = numbered-one _ s (NumberRefused 5) h (ap reply (sym (hence.number-refused b (stood .job) (stood .known) e v)))
 
   pub number-alone : (e f : List ℕ) (r : ℕ) → Numbers b e (Number r) → Numbers b f (Number r) → e ≡ f
-  number-alone e f r p q = hence.number-alone b (stood .job) (stood .known) e f r (taken (numberAnswer b e) r p) (taken (numberAnswer b f) r q)
+  number-alone e f r p q = hence.number-alone b (stood .job) (stood .known) e f r (answer-value (numberAnswer b e) r p) (answer-value (numberAnswer b f) r q)
 
   pub build-each : (r : ℕ) (output after : List ℕ) (x : Built) → r < c → Builds b r output x after
       → (x ≡ Length (length (edgeOf (stood .job) r))) ⊎ (x ≡ BuildRefused 7)
@@ -129,7 +116,7 @@ module _ (b : List ℕ) (c : ℕ) (ok : Accepted b c) where
   pub number-built : (e : List ℕ) (r : ℕ) (output after : List ℕ) (x : Built) → Numbers b e (Number r) → length e ≤ length output → Builds b r output x after
       → (x ≡ Length (length e)) × (after ≡ e ++ drop (length e) output)
   number-built e r output after x n l h =
-      let q = hence.number-built b (stood .job) (stood .known) e r (taken (numberAnswer b e) r n) in
+      let q = hence.number-built b (stood .job) (stood .known) e r (answer-value (numberAnswer b e) r n) in
       let h2 : BuiltAs (record { answer = accepted (length e); output = e ++ drop (length e) output }) x after
       = subst (λ (w : Written). BuiltAs w x after) (hence.build-room b r output e q l) h in
       (says-one _ x (Length (length e)) (h2 .says) refl, h2 .output)

@@ -29,6 +29,7 @@ use Rattle.job.specs.declared.Built.the-variants.{Length, Refused as BuildRefus
 use Rattle.job.specs.Parts.{PartOf}
 use Rattle.job.specs.Replies.{Reply, countSays, widthSays, numberSays, buildSays, BuiltAs}
 use Rattle.job.specs.Replies.Reply.{value, refusal}
+use Rattle.job.proofs.Says.{told-one}
 use Rattle.lines.specs.Lines.{Lined, LinedAs}
 use Rattle.questions.specs.declared.Which.{Which}
 use Rattle.questions.specs.declared.Which.the-variants.{First, Second, Refused as WhichRefused}
@@ -43,12 +44,8 @@ use Rattle.pack.specs.Replies.{partSays, repeatSays}
 use Rattle.pack.specs.Parts.{EdgeIs}
 use Rattle.edges.specs.Seen.{Seen, SeenWrite, SeenDip, SeenSecond, SeenPart, SeenRepeat}
 
--- what can be told from its reply is one
-one-of : {A B : Type 0} (says : A → Reply B) (back : Reply B → A) → ((r : A) → back (says r) ≡ r) → (y : Reply B) (r s : A) → says r ≡ y → says s ≡ y → r ≡ s
-one-of says back h y r s p q = sym (h r) ∙ ap back (p ∙ sym q) ∙ h s
-
 pub counted-one : (y : Reply ℕ) (r s : Counted) → countSays r ≡ y → countSays s ≡ y → r ≡ s
-counted-one = one-of countSays back same
+counted-one = told-one countSays back same
   where
     back : Reply ℕ → Counted
     back (value c) = Count c
@@ -59,7 +56,7 @@ counted-one = one-of countSays back same
     same (CountRefused r) = refl
 
 pub sized-one : (y : Reply ℕ) (r s : Sized) → widthSays r ≡ y → widthSays s ≡ y → r ≡ s
-sized-one = one-of widthSays back same
+sized-one = told-one widthSays back same
   where
     back : Reply ℕ → Sized
     back (value w) = Width w
@@ -70,7 +67,7 @@ sized-one = one-of widthSays back same
     same (WidthRefused r) = refl
 
 pub numbered-one : (y : Reply ℕ) (r s : Numbered) → numberSays r ≡ y → numberSays s ≡ y → r ≡ s
-numbered-one = one-of numberSays back same
+numbered-one = told-one numberSays back same
   where
     back : Reply ℕ → Numbered
     back (value n) = Number n
@@ -81,7 +78,7 @@ numbered-one = one-of numberSays back same
     same (NumberRefused r) = refl
 
 pub says-one : (y : Reply ℕ) (r s : Built) → buildSays r ≡ y → buildSays s ≡ y → r ≡ s
-says-one = one-of buildSays back same
+says-one = told-one buildSays back same
   where
     back : Reply ℕ → Built
     back (value l) = Length l
@@ -101,7 +98,7 @@ pub equal-one : {A : Type 0} (x r s : A) → r ≡ x → s ≡ x → r ≡ s
 equal-one x r s p q = p ∙ sym q
 
 pub which-one : (y : Reply Bool) (r s : Which) → whichSays r ≡ y → whichSays s ≡ y → r ≡ s
-which-one = one-of whichSays back same
+which-one = told-one whichSays back same
   where
     back : Reply Bool → Which
     back (value t) = whichOf t
@@ -113,7 +110,7 @@ which-one = one-of whichSays back same
     same (WhichRefused k) = refl
 
 pub dips-one : (y : Reply (Option ℕ)) (r s : Dips) → dipSays r ≡ y → dipSays s ≡ y → r ≡ s
-dips-one = one-of dipSays back same
+dips-one = told-one dipSays back same
   where
     back : Reply (Option ℕ) → Dips
     back (value (some i)) = DipAt i
@@ -126,7 +123,7 @@ dips-one = one-of dipSays back same
     same (DipRefused k) = refl
 
 pub parted-one : (y : Reply Part) (r s : Parted) → partSays r ≡ y → partSays s ≡ y → r ≡ s
-parted-one = one-of partSays back same
+parted-one = told-one partSays back same
   where
     back : Reply Part → Parted
     back (value p) = PartAt (p .start) (p .end)
@@ -137,7 +134,7 @@ parted-one = one-of partSays back same
     same (PartRefused k) = refl
 
 pub repeats-one : (y : Reply (Option Twice)) (r s : Repeats) → repeatSays r ≡ y → repeatSays s ≡ y → r ≡ s
-repeats-one = one-of repeatSays back same
+repeats-one = told-one repeatSays back same
   where
     back : Reply (Option Twice) → Repeats
     back (value (some t)) = RepeatAt (t .later) (t .earlier)

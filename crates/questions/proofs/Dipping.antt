@@ -22,7 +22,7 @@ use lib.ListN.{length, getD}
 use borrow.Author.Tests.{lt-ltb, le-ltb, le-leb, lt-leb, ltb-true}
 use Rattle.howmany.specs.Choose.{pick, onlyIf}
 use Rattle.howmany.specs.Least.{least}
-use Rattle.howmany.proofs.Choices.{and-left, and-right}
+use Rattle.howmany.proofs.Choices.{and-left, and-right, holds}
 use Rattle.howmany.proofs.Leasts.{least-on, least-at}
 use Rattle.rules.specs.Points.{Point, origin, moved, leℤ}
 use Rattle.rules.specs.Jobs as rules
@@ -47,11 +47,12 @@ use Rattle.job.specs.Stands.Stands.{as-north-east, as-dyck, as-delannoy, as-sch
 use Rattle.job.specs.Replies.{reply}
 use Rattle.job.specs.Replies.Reply.{value, refusal}
 use Rattle.job.proofs.Standing.{Kept, Told}
+use Rattle.job.proofs.Says.{value-not}
 use Rattle.questions.specs.declared.Dips.{Dips}
 use Rattle.questions.specs.declared.Dips.the-variants.{At, Never}
 use Rattle.questions.specs.Replies.{dipSays, kindAnswer}
 use Rattle.questions.specs.Steps.{Slopes, Digits, DipsAs}
-use Rattle.questions.proofs.Comparing.{apart, carried}
+use Rattle.questions.proofs.Comparing.{carried}
 
 -- ---- slopes on raised bytes
 
@@ -115,8 +116,8 @@ slopes {j} (as-dyck q v) e f t = absurd (omega arith)
 slopes {j} (as-delannoy q v) e f t = absurd (omega arith)
 slopes {j} (as-schroder q v) e f t = absurd (omega arith)
 slopes {j} (as-motzkin q v) e f t = absurd (omega arith)
-slopes {j} (as-open {m} {pairs} q v) e f t = directed-slopes j false m pairs v e (subst T (sym t) tt)
-slopes {j} (as-fenced {m} {pairs} q v) e f t = directed-slopes j true m pairs v e (subst T (sym t) tt)
+slopes {j} (as-open {m} {pairs} q v) e f t = directed-slopes j false m pairs v e (holds t)
+slopes {j} (as-fenced {m} {pairs} q v) e f t = directed-slopes j true m pairs v e (holds t)
 
 -- ---- the loop of `first_rise`
 
@@ -206,7 +207,7 @@ module _ (block : List ℕ) where
   kind-refused k e = go (knownJob block) e
     where
       go : (a : Answer rules.Job) → refusal k ≡ reply (andThen a (λ J. accepted (countOf J))) → refusal k ≡ reply (andThen {B = Option ℕ} a (λ J. refused kind))
-      go (accepted J) e = absurd (apart (countOf J) k (sym e))
+      go (accepted J) e = absurd (value-not (sym e))
       go (refused r) e = carried k (refusalNumber r) e
 
   pub kind-value : (c : ℕ) → value c ≡ reply (countAnswer block) → refusal 11 ≡ reply (kindAnswer block)
@@ -215,7 +216,7 @@ module _ (block : List ℕ) where
     where
       go : (a : Answer rules.Job) → value c ≡ reply (andThen a (λ J. accepted (countOf J))) → refusal 11 ≡ reply (andThen {B = Option ℕ} a (λ J. refused kind))
       go (accepted J) e = refl
-      go (refused r) e = absurd (apart c (refusalNumber r) e)
+      go (refused r) e = absurd (value-not e)
 
   module _ (e : List ℕ) where
     -- what is asked of the job
@@ -292,7 +293,7 @@ module _ (block : List ℕ) where
         dip-refused k q = go fits (walks (h .job) origin e) (q ∙ ap reply number-is) ∙ ap reply (sym dip-sloped)
           where
             go : (t w : Bool) → refusal k ≡ reply (numbered-too t w) → refusal k ≡ reply (valued t w)
-            go true true q = absurd (apart (numberOf (h .job) e) k (sym q))
+            go true true q = absurd (value-not (sym q))
             go true false q = carried k (refusalNumber not-an-edge) q
             go false w q = carried k (refusalNumber over) q
 
@@ -303,8 +304,8 @@ module _ (block : List ℕ) where
             where
               go : (t w : Bool) → value x ≡ reply (numbered-too t w) → (t ≡ true) × (w ≡ true)
               go true true q = (refl, refl)
-              go true false q = absurd (apart x (refusalNumber not-an-edge) q)
-              go false w q = absurd (apart x (refusalNumber over) q)
+              go true false q = absurd (value-not q)
+              go false w q = absurd (value-not q)
 
           pub dip-digits : Digits j e
           dip-digits = record { job = h .job; slopes = slopes (h .stands) e l (both-true .1) }

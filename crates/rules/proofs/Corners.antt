@@ -6,31 +6,31 @@
 --   corner-shear           what the theorem asks, from the steps and from the counts
 --   L-agrees, D-agrees     the counts
 --   north-east-shear, delannoy-shear
-use mathlib.Core.Path.{_≡_, refl, sym, ap, ap₂, _∙_, subst}
-use mathlib.Core.Bool.{Bool, true, false, _&&_}
-use mathlib.Core.List.{List, [], _∷_}
+use mathlib.Core.Path.{_≡_, refl, sym, ap, ap₂, _∙_}
+use mathlib.Core.Bool.{Bool, true, false}
+use mathlib.Core.List.{List}
 use Prim.Native.Nat.{ℕ, zero, suc, _+_, _-_, _*_, _≤_, _<_}
 use native.Mathlib.Decide.{decLe}
 use native.Mathlib.Nat.{not-suc-le-zero}
 use native.Mathlib.Omega.{arith}
 use lib.Dec.{T, leb, eqb, eqb→eq, le→leb, leb→le}
-use lib.IntN.{ℤ, pos, negsuc, _+ℤ_, _-ℤ_, pos-+ℤ-pos, +ℤ-negℤ-cancel}
-use lib.ListN.{length, getD}
+use lib.IntN.{pos, negsuc, _+ℤ_, _-ℤ_, pos-+ℤ-pos}
+use lib.ListN.{length}
 use Rattle.howmany.specs.Choose.{pick, bit}
 use Rattle.howmany.specs.Sum.{sum}
-use Rattle.howmany.proofs.Choices.{is-true, is-false}
+use Rattle.howmany.proofs.Choices.{is-true, is-false, holds}
 use Rattle.howmany.proofs.Cases.{two, three}
-use Rattle.howmany.proofs.Sums.{sum-cong, sum-none}
-use Rattle.backward.specs.Grid.{Spot, Steps, on, off, inside, reach, Onward, paths}
+use Rattle.howmany.proofs.Sums.{sum-none}
+use Rattle.backward.specs.Grid.{Spot, Steps, off, inside, reach, Onward, paths}
 use Rattle.backward.proofs.Grids.{paths-start, paths-step, reached, reaches, spot-eq}
-use Rattle.rules.specs.Points.{Point, Step, moved, undone}
+use Rattle.rules.specs.Points.{Point, Step}
 use Rattle.rules.specs.Jobs.{Job, stepsOf, stays}
 use Rattle.rules.specs.Jobs.Job.{north-east, delannoy}
 use Rattle.rules.specs.Valid.{place, at}
 use Rattle.rules.specs.Order.{standing}
 use Rattle.rules.specs.Counts.{L, Dl}
-use Rattle.rules.specs.Numbers.{raised, ending}
-use Rattle.rules.specs.Shear.{Corner, cornerGrid, gridOf}
+use Rattle.rules.specs.Numbers.{raised}
+use Rattle.rules.specs.Shear.{Corner, gridOf}
 use Rattle.rules.proofs.Letters.{point-eq}
 use Rattle.rules.proofs.Signed.{is-one, is-minus}
 use Rattle.rules.proofs.Sheared.{Back, Shear}
@@ -55,7 +55,7 @@ module _ (ss : List Step) (G : Steps) (H : Cornered ss G) where
       ∙ sum-none (λ i. pick (reach G p i) (paths G (off G p i)) 0) (G .k) (λ i k. go i k (reach G p i) refl)
     where
       go : (i : ℕ) → i < G .k → (b : Bool) → reach G p i ≡ b → pick b (paths G (off G p i)) 0 ≡ 0
-      go i k true e = h i k (subst T (sym e) tt)
+      go i k true e = h i k (holds e)
       go i k false e = refl
 
   pub no-walks : (x y : ℕ) → x < y → paths G (record { x = x; y = y }) ≡ 0
@@ -82,7 +82,7 @@ module _ (ss : List Step) (G : Steps) (H : Cornered ss G) where
   term-none p i l = go (reach G p i) refl
     where
       go : (b : Bool) → reach G p i ≡ b → pick b (paths G (off G p i)) 0 ≡ 0
-      go true e = let r = reached G p i (subst T (sym e) tt) in no-walks (p .x - G .a i) (p .y - G .c i) (omega arith)
+      go true e = let r = reached G p i (holds e) in no-walks (p .x - G .a i) (p .y - G .c i) (omega arith)
       go false e = refl
 
 -- ---- a step undone
@@ -128,7 +128,7 @@ corner-shear J G K H own stands free counts = record {
   own = own;
   rising = λ i j l m. omega (arith, stands i (omega arith), stands j m);
   start = record { across = refl; up = refl };
-  one-spot = λ p q r a b. let e : q .y ≡ r .y = pos-one (sym (a .up) ∙ b .up) in spot-eq (omega (arith, a .across, b .across)) e;
+  one-spot = λ p q r a b. let e : q .y ≡ r .y = cc in spot-eq (omega (arith, a .across, b .across)) e;
   one-point = λ p s q a b. point-eq (omega (arith, a .across, b .across)) (a .up ∙ sym (b .up));
   next = λ p q i l a. record {
     across = omega (arith, a .across, H .right i l);
@@ -138,9 +138,6 @@ corner-shear J G K H own stands free counts = record {
   undo = undo (stepsOf J) G H K;
   agrees = λ p q a. ap (raised K (p .x)) (a .up) ∙ counts (p .x) (q .y) ∙ ap (paths G) (spot-eq {q = q} (a .across) refl);
 }
-  where
-    pos-one : {m n : ℕ} → pos m ≡ pos n → m ≡ n
-    pos-one e = cc
 
 -- ---- case by case over two or three steps
 

@@ -3,9 +3,10 @@
 --   InRange J         what the theorems ask of a job: for families 6 and 7 a small step set, for the others nothing
 --   numbering         the valid edges of a job, in document 01's order, have the numbers below the count
 --   demand            demand 3 for one job
+--   refused-not, accepted-one    an answer is one thing; passed, then-passed: what isn't refused was accepted before
 --   accepted-range    a job that isn't refused is in range
 --   demand-3          demand 3 for an arbitrary block that isn't refused
-use mathlib.Core.Path.{_≡_, refl, sym, ap, _∙_, subst}
+use mathlib.Core.Path.{_≡_, refl, sym, subst}
 use mathlib.Core.Bool.{Bool, true, false, not, _&&_}
 use mathlib.Core.List.{List, [], _∷_, reverse}
 use Prim.Native.Nat.{ℕ, zero, suc, _+_, _-_, _*_, _≤_, _<_}
@@ -15,30 +16,27 @@ use native.Mathlib.Omega.{arith}
 use lib.Dec.{T, leb, eqb, leb→le}
 use borrow.Author.Tests.{lt-leb, eqb-false}
 use lib.IntN.{ℤ, pos, negsuc}
-use lib.ListN.{length, take, drop, length-take}
+use lib.ListN.{length, drop, length-take}
 use Rattle.howmany.specs.Choose.{pick}
 use Rattle.howmany.specs.Numbering.{Numbering}
 use Rattle.howmany.proofs.Choices.{and-left, and-right}
 use Rattle.howmany.proofs.Numberings.{number-counts, number-places, number-one, number-total}
-use Rattle.backward.specs.Grid.{Spot, paths}
-use Rattle.arches.specs.Counts.{count}
-use Rattle.arches.specs.Trees.{treeOf, number, build, print}
-use Rattle.rules.specs.Points.{Point, origin, leℤ, height}
-use Rattle.rules.specs.Jobs.{Job, Pair, endOf}
+use Rattle.rules.specs.Points.{leℤ, height}
+use Rattle.rules.specs.Jobs.{Job, Pair}
 use Rattle.rules.specs.Jobs.Job.{north-east, dyck, delannoy, schroder, motzkin, directed}
-use Rattle.rules.specs.Valid.{Valid, walks}
+use Rattle.rules.specs.Valid.{Valid}
 use Rattle.rules.specs.Order.{Before, Decides}
 use Rattle.rules.specs.Counts.{L, Dl, C, S, M, W, countOf}
-use Rattle.rules.specs.Numbers.{raised, numberOf, edgeOf, numberBack, edgeBack}
+use Rattle.rules.specs.Numbers.{raised, numberOf, edgeOf}
 use Rattle.rules.specs.Shear.{Is, Corner, Slope, gridOf}
 use Rattle.rules.specs.Counts.{pairAt}
-use Rattle.rules.specs.Blocks.{familyOf, nOf, mOf, kOf, pairsIn, used, between, small, unused, zeros, formed, sizedCorner, sizedDirected, sized, twins, jobIn, jobAnswer}
-use Rattle.rules.specs.Refusals.{Refusal, Answer, check}
+use Rattle.rules.specs.Blocks.{familyOf, nOf, mOf, kOf, pairsIn, used, between, small, unused, zeros, formed, sizedDirected, sized, twins, jobIn, jobAnswer}
+use Rattle.rules.specs.Refusals.{Refusal, Answer, check, andThen}
 use Rattle.rules.specs.Refusals.Refusal.{form, size, twin}
 use Rattle.rules.specs.Refusals.Answer.{accepted, refused}
 use Rattle.rules.specs.Demand.{Demand3}
-use Rattle.rules.proofs.Signed.{is-shift}
-use Rattle.rules.proofs.Sheared.{Shear, some-end, sheared}
+use Rattle.rules.proofs.Signed.{is-shift, is-apart}
+use Rattle.rules.proofs.Sheared.{some-end, sheared}
 use Rattle.rules.proofs.Corners.{L-agrees, D-agrees, north-east-shear, delannoy-shear}
 use Rattle.rules.proofs.Slopes.{Small, W-agrees, W-none, slope-shear}
 use Rattle.rules.proofs.ArchPaths.{arched, dyck-arched, schroder-arched, motzkin-arched}
@@ -75,11 +73,6 @@ look (negsuc a) q = go (decLe (suc a) q)
     go (yes l) = above (q - suc a) (omega arith)
     go (no l) = beneath (a - q) (omega arith)
 
--- nothing is both above and beneath
-apart : (m : ℤ) (y q t : ℕ) → Is m y q → Is m 0 (q + suc t) → ⊥
-apart (pos a) y q t h l = omega arith
-apart (negsuc a) y q t h l = omega arith
-
 slope-numbering : (fenced : Bool) (n : ℕ) (m : ℤ) (pairs : List Pair) → Small pairs
     → Numbering (Valid (directed fenced n m pairs)) (λ e g. Decides (reverse e) (reverse g)) (W fenced pairs n m) (numberOf (directed fenced n m pairs)) (edgeOf (directed fenced n m pairs))
 unfolding numberOf edgeOf
@@ -93,7 +86,7 @@ slope-numbering fenced n m pairs S = go (look m (3 * n))
     go (beneath t e) =
         rw (W-none fenced pairs S n t m e)
         (nothing (λ s v. let (q, a) = some-end (directed fenced n m pairs) (gridOf (directed fenced n m pairs)) (W fenced pairs) Slope (slope-shear fenced pairs S n m) s v in
-        apart m (q .y) (3 * n) t (is-shift m (q .y) (3 * q .x) (q .y) (3 * n) (a .up) (omega (arith, a .across))) e))
+        is-apart m (q .y) (3 * n) t (is-shift m (q .y) (3 * q .x) (q .y) (3 * n) (a .up) (omega (arith, a .across))) e))
 
 pub numbering : (J : Job) → InRange J → Numbering (Valid J) (Before J) (countOf J) (numberOf J) (edgeOf J)
 unfolding countOf C S M numberOf edgeOf
@@ -212,6 +205,11 @@ accepted-one u v e = cc
 pub passed : {A : Type 0} (ok : Bool) (r : Refusal) (a : Answer A) (v : A) → check ok r a ≡ accepted v → T ok × (a ≡ accepted v)
 passed true r a v e = (tt, e)
 passed false r a v e = absurd (refused-not r v e)
+
+-- an answer that isn't refused, behind another: neither was that
+pub then-passed : {A B : Type 0} (a : Answer A) (f : A → Answer B) (v : B) → andThen a f ≡ accepted v → (u : A) × (a ≡ accepted u) × (f u ≡ accepted v)
+then-passed (accepted u) f v e = (u, refl, e)
+then-passed (refused r) f v e = absurd (refused-not r v e)
 
 pub accepted-range : (block : List ℕ) (J : Job) → jobAnswer block ≡ accepted J → InRange J
 unfolding jobAnswer

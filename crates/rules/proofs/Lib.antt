@@ -15,4 +15,5 @@ pub mod PackExamples
 pub mod Earlier
 pub mod Lengths
 pub mod PackLaws
+pub mod Belows
 pub mod Packed

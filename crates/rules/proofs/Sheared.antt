@@ -9,19 +9,19 @@
 use mathlib.Core.Path.{_≡_, refl, sym, ap, ap₂, _∙_, subst}
 use mathlib.Core.Logic.{_⊎_, inl, inr}
 use mathlib.Core.Bool.{Bool, true, false, _&&_}
-use mathlib.Core.Option.{Option, none, some}
+use mathlib.Core.Option.{some}
 use mathlib.Core.List.{List, [], _∷_, map, reverse, reverseAux, reverse-reverse}
 use Prim.Native.Nat.{ℕ, zero, suc, _+_, _-_, _≤_, _<_}
 use native.Mathlib.Omega.{arith}
-use lib.Dec.{T, ltb, leb, eqb, ltb→lt, lt→ltb, le→leb, eqb→eq}
+use lib.Dec.{T, ltb, leb, eqb, ltb→lt, lt→ltb, le→leb}
 use lib.IntN.{ℤ}
 use lib.ListN.{length}
 use Rattle.howmany.specs.Choose.{pick, onlyIf, bit}
 use Rattle.howmany.specs.Sum.{sum, find, Falls}
 use Rattle.howmany.specs.Numbering.{Numbering}
-use Rattle.howmany.proofs.Choices.{and-left, and-right, and-both, is-true, is-false, bit-none, only-true, tri}
+use Rattle.howmany.proofs.Choices.{and-left, and-right, and-both, is-true, is-false, only-true, tri, holds}
 use Rattle.howmany.proofs.Sums.{sum-cong, find-falls}
-use Rattle.howmany.proofs.Numberings.{Renaming, carried}
+use Rattle.howmany.proofs.Numberings.{carried}
 use Rattle.backward.specs.Reader.{Before, valid, count, rank, unrank}
 use Rattle.backward.specs.Walk.{Walks, Edge, enter}
 use Rattle.backward.specs.Grid.{Spot, Steps, on, off, inside, reach, grid, way, Onward, paths}
@@ -290,7 +290,7 @@ module _ (J : Job) (G : Steps) (F : ℕ → ℤ → ℕ) (At : Point → Spot �
 
       go : (b : Bool) → (eqb (q .x) 0 && eqb (q .y) 0) ≡ b → Spells f → edgeBack (stepsOf J) F (suc f) p r ≡ map glyph (unrank (grid G) (some q) r)
       go true e ih =
-          let u : T (eqb (q .x) 0 && eqb (q .y) 0) = subst T (sym e) tt in
+          let u : T (eqb (q .x) 0 && eqb (q .y) 0) = holds e in
           let s : same p origin ≡ true = is-true (same p origin) (rw (start-point p q a u) (same-refl origin)) in
           rw s (ap (map glyph) (sym (unrank-start (grid G) (grid-lawful G (H .onward)) q r u h)))
       go false e ih =
@@ -333,9 +333,9 @@ module _ (J : Job) (G : Steps) (F : ℕ → ℤ → ℕ) (At : Point → Spot �
       where
         go : (a : Bool) → walks J origin e ≡ a → (b : Bool) → valid (grid G) (reverse (map pl e)) (enter (grid G) (way G) q) ≡ b → a ≡ b
         go true p true r = refl
-        go true p false r = absurd (subst T r (to-word e (subst T (sym p) tt)))
+        go true p false r = absurd (subst T r (to-word e (holds p)))
         go false p true r =
-            let w = edge-valid (grid G) (grid-lawful G (H .onward)) (way G) (grid-turned G (H .onward)) (map pl e) q .1 (subst T (sym r) tt) in
+            let w = edge-valid (grid G) (grid-lawful G (H .onward)) (way G) (grid-turned G (H .onward)) (map pl e) q .1 (holds r) in
             absurd (subst T p (off-walk e origin (record { x = 0; y = 0 }) q (H .start) z w))
         go false p false r = refl
 

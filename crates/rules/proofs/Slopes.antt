@@ -5,31 +5,30 @@
 --   digit-place        the digits' places
 --   W-agrees, W-none   the counts
 --   slope-shear        what the theorem asks
-use mathlib.Core.Path.{_≡_, refl, sym, ap, ap₂, _∙_, subst}
-use mathlib.Core.Bool.{Bool, true, false, not, _&&_}
+use mathlib.Core.Path.{_≡_, refl, sym, ap, _∙_}
+use mathlib.Core.Bool.{Bool, true, false, not}
 use mathlib.Core.List.{List, [], _∷_}
 use Prim.Native.Nat.{ℕ, zero, suc, _+_, _-_, _*_, _≤_, _<_}
-use native.Mathlib.Decide.{decLe, decLt}
+use native.Mathlib.Decide.{decLe}
 use native.Mathlib.Nat.{not-suc-le-zero, le-of-suc-le-suc}
 use native.Mathlib.Omega.{arith}
-use lib.Dec.{T, leb, eqb, eqb→eq, le→leb, leb→le}
+use lib.Dec.{T, leb, eqb, le→leb}
 use lib.IntN.{ℤ, pos, negsuc, _+ℤ_, _-ℤ_}
-use lib.ListN.{length, getD}
+use lib.ListN.{length}
 use borrow.Author.Tests.{le-leb, lt-leb, eq-eqb, ne-eqb, leb-true, leb-false, eqb-true, eqb-false}
 use Rattle.howmany.specs.Choose.{pick, bit}
 use Rattle.howmany.specs.Sum.{sum}
 use Rattle.howmany.proofs.Choices.{is-true, is-false}
 use Rattle.howmany.proofs.Sums.{sum-cong, sum-none}
-use Rattle.backward.specs.Grid.{Spot, Steps, on, off, inside, reach, Onward, paths}
+use Rattle.backward.specs.Grid.{Spot, Steps, on, off, inside, reach, paths}
 use Rattle.backward.proofs.Grids.{paths-start, paths-step, paths-outside, reached, reaches, spot-eq}
-use Rattle.rules.specs.Points.{Point, Step, moved, undone, leℤ, eqℤ, height}
+use Rattle.rules.specs.Points.{Point, Step, leℤ, eqℤ}
 use Rattle.rules.specs.Jobs.{Job, Pair, one, numbered, stepsOf, stays}
 use Rattle.rules.specs.Jobs.Job.{directed}
 use Rattle.rules.specs.Valid.{place, at}
 use Rattle.rules.specs.Order.{standing}
 use Rattle.rules.specs.Counts.{under, pairAt, from, Within, W}
-use Rattle.rules.specs.Numbers.{ending}
-use Rattle.rules.specs.Shear.{Is, lift, Slope, slopeGrid}
+use Rattle.rules.specs.Shear.{Is, Slope, slopeGrid}
 use Rattle.rules.proofs.Letters.{point-eq}
 use Rattle.rules.proofs.Signed.{is-shift, is-plus, is-minus, is-one, is-up, is-lift, is-fence, is-zero, is-below}
 use Rattle.rules.proofs.Sheared.{Back, Shear}

@@ -1,5 +1,5 @@
 -- `arch::build_all` meets its contract: by what is known of the block, and what is written with the family's counts. Assumes nothing.
-use mathlib.Core.Path.{_≡_, sym, _∙_, subst}
+use mathlib.Core.Path.{sym, _∙_, subst}
 use mathlib.Core.Bool.{true}
 use borrow.Author.Tests.{not-true, not-false}
 use Rattle.lines.proofs.Lining.{room-of, lines-short, lines-room}

@@ -1,11 +1,10 @@
 -- `calls::count` meets its contract: the crate of the block's family answers. Assumes nothing.
-use mathlib.Core.Path.{_≡_, refl, sym, ap, _∙_}
+use mathlib.Core.Path.{sym, ap, _∙_}
 use Rattle.job.specs.Replies.{reply}
 use Rattle.calls.proofs.Routes.{of-arch, of-grid}
 use borrow.Author.Needs.{needs}
 use Rattle.calls.proofs.count.Statement.{statement}
 use Rattle.calls.proofs.count.Tie as tie
-use Rattle.grid.proofs.count.Reads as count-reads′
 
 is-square-requires : tie.Need-is-square-requires
 is-square-requires c κs = search needs

@@ -1,5 +1,5 @@
 -- `calls::width` meets its contract, from the count's. Assumes nothing.
-use mathlib.Core.Path.{_≡_, refl, sym, ap, _∙_}
+use mathlib.Core.Path.{sym, ap, _∙_}
 use Rattle.job.specs.Replies.{countSays}
 use Rattle.calls.proofs.Routes.{width-value, width-refusal}
 use borrow.Author.Needs.{needs}

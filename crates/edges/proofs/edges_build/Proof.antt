@@ -1,5 +1,5 @@
 -- `edges::edges_build` meets its contract, from that of `calls::build`. Assumes nothing.
-use mathlib.Core.Path.{_≡_, sym, ap, _∙_}
+use mathlib.Core.Path.{ap}
 use Rattle.job.specs.Replies.{buildSays}
 use Rattle.job.specs.Replies.Reply.{value, refusal}
 use Rattle.edges.proofs.Shows.{sees-write}

@@ -1,5 +1,5 @@
 -- `edges::edges_count` meets its contract, from that of `calls::count`. Assumes nothing.
-use mathlib.Core.Path.{_≡_, sym, ap, _∙_}
+use mathlib.Core.Path.{sym, ap, _∙_}
 use Rattle.job.specs.Replies.{countSays}
 use Rattle.job.specs.Replies.Reply.{value, refusal}
 use Rattle.edges.proofs.Shows.{sees}

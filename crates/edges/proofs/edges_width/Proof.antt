@@ -1,5 +1,5 @@
 -- `edges::edges_width` meets its contract, from that of `calls::width`. Assumes nothing.
-use mathlib.Core.Path.{_≡_, sym, ap, _∙_}
+use mathlib.Core.Path.{sym, ap, _∙_}
 use Rattle.job.specs.Replies.{widthSays}
 use Rattle.job.specs.Replies.Reply.{value, refusal}
 use Rattle.edges.proofs.Shows.{sees}

@@ -1,8 +1,8 @@
 -- `grid::count` meets its contract: by family, by the job maker's answer, and by the job's shape. Assumes nothing.
-use mathlib.Core.Path.{_≡_, refl, sym, ap, _∙_}
+use mathlib.Core.Path.{sym, ap, _∙_}
 use Rattle.rules.specs.Blocks.{square}
 use native.Mathlib.Omega.{arith}
-use Rattle.job.proofs.Standing.{Bytes, kept-of, told-of}
+use Rattle.job.proofs.Standing.{kept-of, told-of}
 use Rattle.grid.proofs.Grounds.{grids-of, stands-range}
 use Rattle.grid.proofs.Counted.{square-reply, count-told-reply, sound-of, count-reply}
 use borrow.Author.Needs.{needs}

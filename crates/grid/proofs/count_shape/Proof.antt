@@ -1,5 +1,5 @@
 -- `grid::count_shape` meets its contract: by the shape's state, and then by the table's answer. Assumes nothing.
-use mathlib.Core.Path.{_≡_, refl, sym, ap, _∙_}
+use mathlib.Core.Path.{sym, _∙_}
 use native.Mathlib.Omega.{arith}
 use Rattle.grid.proofs.Counted.{state-over, state-none, state-working, counts-over, counts-value, counts-cap, counts-cap-over}
 use borrow.Author.Needs.{needs}

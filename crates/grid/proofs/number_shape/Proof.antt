@@ -1,5 +1,5 @@
 -- `grid::number_shape` meets its contract: by the shape's state, and then by the table's answer. Assumes nothing.
-use mathlib.Core.Path.{_≡_, refl, sym, ap, _∙_}
+use mathlib.Core.Path.{ap, _∙_}
 use Rattle.job.specs.Replies.{reply}
 use Rattle.grid.proofs.Counted.{state-over, state-none, state-empty, state-working, number-over, number-none, table-is}
 use Rattle.grid.proofs.number_shape.Statement.{statement}

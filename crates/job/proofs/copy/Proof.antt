@@ -3,7 +3,7 @@ use mathlib.Core.Path.{_≡_, refl, _∙_}
 use mathlib.Core.List.{_++_}
 use Prim.Native.Nat.{_-_, _≤_}
 use native.Mathlib.Omega.{arith}
-use lib.ListN.{length, length-set, getD, take, drop}
+use lib.ListN.{length, length-set, take, drop}
 use Rattle.job.proofs.Puts.{copied-next, copied-all}
 use borrow.Author.Needs.{needs}
 use Rattle.job.proofs.copy.Statement.{statement}

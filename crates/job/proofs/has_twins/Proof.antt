@@ -1,10 +1,9 @@
 -- `job::has_twins` meets its contract: no pair that is passed stands again, so there are twins exactly if there are among the rest. Assumes nothing.
-use mathlib.Core.Path.{_≡_, refl, sym, ap, _∙_}
+use mathlib.Core.Path.{_≡_, sym, _∙_}
 use Prim.Native.Nat.{_≤_, _-_}
 use native.Mathlib.Omega.{arith}
-use lib.ListN.{length, drop}
+use lib.ListN.{drop}
 use Rattle.rules.specs.Blocks.{twins, used}
-use Rattle.job.specs.Made.{Pairs}
 use Rattle.job.proofs.Blocks.{twins-next, twins-end}
 use borrow.Author.Needs.{needs}
 use Rattle.job.proofs.has_twins.Statement.{statement}

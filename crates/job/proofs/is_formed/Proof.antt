@@ -1,9 +1,9 @@
 -- `job::is_formed` meets its contract: each return by the tests that led there. Assumes nothing.
-use mathlib.Core.Path.{_≡_, refl, sym, ap, _∙_}
+use mathlib.Core.Path.{sym, ap, _∙_}
 use Prim.Native.Nat.{_+_, _*_}
 use native.Mathlib.Omega.{arith}
 use borrow.Author.Tests.{eq-eqb, ne-eqb, le-leb, lt-leb}
-use lib.ListN.{getD, drop, length}
+use lib.ListN.{getD, drop}
 use Rattle.rules.specs.Blocks.{zeros}
 use Rattle.job.proofs.Blocks.{formed-is, rest, zeros-past}
 use borrow.Author.Needs.{needs}

@@ -1,11 +1,11 @@
 -- `job::is_in` meets its contract: the pairs that are passed are others, so pair i is among all exactly if it is among the rest. Assumes nothing.
-use mathlib.Core.Path.{_≡_, refl, sym, ap, _∙_}
+use mathlib.Core.Path.{_≡_, refl, sym, _∙_}
 use mathlib.Core.Logic.{⊎-elim}
 use Prim.Native.Nat.{_≤_, _-_, _*_, _+_}
 use native.Mathlib.Omega.{arith}
-use lib.ListN.{length, drop}
+use lib.ListN.{drop}
 use Rattle.rules.specs.Blocks.{isIn, used}
-use Rattle.job.specs.Made.{pairOf, Pairs}
+use Rattle.job.specs.Made.{pairOf}
 use Rattle.job.proofs.Blocks.{in-found, in-other-a, in-other-b, in-end}
 use borrow.Author.Needs.{needs}
 use Rattle.job.proofs.is_in.Statement.{statement}

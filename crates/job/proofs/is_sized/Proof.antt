@@ -1,5 +1,5 @@
 -- `job::is_sized` meets its contract: by family. Assumes nothing.
-use mathlib.Core.Path.{_≡_, sym, _∙_}
+use mathlib.Core.Path.{sym, _∙_}
 use borrow.Author.Tests.{le-leb, lt-leb}
 use Rattle.job.proofs.Blocks.{sized-is}
 use borrow.Author.Needs.{needs}

@@ -1,5 +1,5 @@
 -- `job::is_sized_directed` meets its contract: each return by the tests that led there. Assumes nothing.
-use mathlib.Core.Path.{_≡_, refl, sym, ap, _∙_}
+use mathlib.Core.Path.{refl, sym, _∙_}
 use native.Mathlib.Omega.{arith}
 use borrow.Author.Tests.{le-leb, lt-leb}
 use Rattle.job.proofs.Blocks.{directed-is}

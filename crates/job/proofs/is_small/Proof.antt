@@ -3,9 +3,9 @@ use mathlib.Core.Path.{_≡_, sym, ap, _∙_}
 use Prim.Native.Nat.{_≤_, _-_, _*_, _+_}
 use native.Mathlib.Omega.{arith}
 use borrow.Author.Tests.{not-true, not-false}
-use lib.ListN.{length, drop, getD}
+use lib.ListN.{drop, getD}
 use Rattle.rules.specs.Blocks.{small, used}
-use Rattle.job.specs.Made.{inRange, Pairs}
+use Rattle.job.specs.Made.{inRange}
 use Rattle.job.proofs.Blocks.{small-more, small-not, small-end}
 use borrow.Author.Needs.{needs}
 use Rattle.job.proofs.is_small.Statement.{statement}

@@ -1,8 +1,6 @@
 -- `job::is_square` meets its contract: each return by the tests that led there. Assumes nothing.
-use mathlib.Core.Path.{_≡_, refl, sym, ap, _∙_}
-use mathlib.Core.Bool.{false}
+use mathlib.Core.Path.{sym}
 use borrow.Author.Tests.{eq-eqb, ne-eqb}
-use Rattle.rules.specs.Blocks.{familyOf, square}
 use Rattle.job.proofs.Blocks.{no-family}
 use borrow.Author.Needs.{needs}
 use Rattle.job.proofs.is_square.Statement.{statement}

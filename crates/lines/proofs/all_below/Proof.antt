@@ -3,7 +3,7 @@ use Prim.Native.Nat.{ℕ, _≤_, _<_, _-_}
 use mathlib.Core.Path.{sym}
 use native.Mathlib.Omega.{arith}
 use lib.ListN.{length, getD}
-use Rattle.lines.proofs.Lining.{below-not, below-all, below-more}
+use Rattle.rules.proofs.Belows.{below-not, below-all, below-more}
 use borrow.Author.Needs.{needs}
 use Rattle.lines.proofs.all_below.Statement.{statement}
 use Rattle.lines.proofs.all_below.Tie as tie

@@ -6,7 +6,8 @@ use Rattle.rules.specs.Questions.{Part, partAnswer}
 use Rattle.job.specs.Replies.{reply}
 use Rattle.job.specs.Replies.Reply.{value}
 use Rattle.pack.specs.Replies.{partSays}
-use Rattle.pack.proofs.Knowing.{answer-value, answer-refusal}
+use Rattle.job.proofs.Says.{answer-value}
+use Rattle.pack.proofs.Knowing.{answer-refusal}
 use Rattle.pack.proofs.Reading.{Inside, part-inside}
 use Rattle.pack.proofs.edge.Statement.{statement}
 use Rattle.pack.proofs.edge.Tie as tie

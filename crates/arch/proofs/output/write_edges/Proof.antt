@@ -1,13 +1,15 @@
 -- `arch::output::write_edges` meets its contract: each edge is built where the one before it ends. Assumes nothing.
 use mathlib.Core.Path.{_≡_, sym, _∙_}
 use mathlib.Core.Bool.{true}
-use Prim.Native.Nat.{_≤_, _-_}
+use Prim.Native.Nat.{_-_}
 use native.Mathlib.Omega.{arith}
 use lib.ListN.{length}
 use borrow.Author.Tests.{not-true, not-false}
+use Rattle.howmany.proofs.Choices.{holds}
 use Rattle.arches.specs.Counts.{count}
 use Rattle.rules.specs.Questions.{allBelow}
-use Rattle.lines.proofs.Lining.{Lining, below-at, lining-none, lining-room, lining-part}
+use Rattle.rules.proofs.Belows.{below-at}
+use Rattle.lines.proofs.Lining.{Lining, lining-none, lining-room, lining-part}
 use Rattle.arch.specs.Calls.{edgeBy}
 use Rattle.arch.proofs.Lined.{all-told, none-lined, next-lined, all-lined}
 use borrow.Author.Needs.{needs}
@@ -51,7 +53,7 @@ shared-slice-read-build : tie.Need-shared-slice-read-build Inv-loop μ-loop
 shared-slice-read-build c = search needs
 
 build-requires : tie.Need-build-requires Inv-loop μ-loop
-build-requires c κs = (c .before .before .before .before .before .before .before .before .before .before .before .pre .0, below-at _ _ (c .before .before .before .loop .inv .0) _ (c .before .before .loop-test .taken), omega (arith, c .before .before .before .before .before .before .before .before .before .before .before .pre .0 .small, (lining-part _ _ _ _ _ _ _ _ (c .before .before .before .loop .inv .1) (c .before .before .loop-test .taken))))
+build-requires c κs = (c .before .before .before .before .before .before .before .before .before .before .before .pre .0, below-at _ _ (holds (c .before .before .before .loop .inv .0)) _ (c .before .before .loop-test .taken), omega (arith, c .before .before .before .before .before .before .before .before .before .before .before .pre .0 .small, (lining-part _ _ _ _ _ _ _ _ (c .before .before .before .loop .inv .1) (c .before .before .loop-test .taken))))
 
 add-at : tie.Need-add-at Inv-loop μ-loop
 add-at c = let h = (lining-room _ _ _ _ _ _ _ _ (c .before .before .before .before .before .before .loop .inv .1) (c .before .before .before .before .before .loop-test .taken)) in let w = c .before .before .build .ensures .short in let s = c .before .before .before .before .before .before .before .before .before .before .before .before .before .before .pre .0 .small in search needs

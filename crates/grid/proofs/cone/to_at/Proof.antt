@@ -1,4 +1,3 @@
-use Prim.Native.Nat.{_-_}
 use native.Mathlib.Omega.{arith}
 use Rattle.grid.proofs.Laws.{mul-bound}
 use borrow.Author.Needs.{needs}

@@ -1,4 +1,4 @@
-use Rattle.grid.proofs.Phases.{zeros}
+use Rattle.job.proofs.Puts.{zeros-at}
 use borrow.Author.Needs.{needs}
 use Rattle.grid.proofs.counting.count_2048.Statement.{statement}
 use Rattle.grid.proofs.counting.count_2048.Tie as tie
@@ -7,7 +7,7 @@ slice-aggregate-fill : tie.Need-slice-aggregate-fill
 slice-aggregate-fill c = search needs
 
 fill-requires : tie.Need-fill-requires
-fill-requires c κs = record { ready = record { sizes = c .before .pre .sizes; plan = c .before .pre .plan; offs = c .before .pre .offs; fewer = c .before .pre .fewer; room = c .before .pre .room }; zero-at = zeros 2048 }
+fill-requires c κs = record { ready = record { sizes = c .before .pre .sizes; plan = c .before .pre .plan; offs = c .before .pre .offs; fewer = c .before .pre .fewer; room = c .before .pre .room }; zero-at = zeros-at 2048 }
 
 returns : tie.Need-returns
 returns c = search needs

@@ -1,5 +1,5 @@
 -- `grid::numbering::number_7040` meets its contract: a blank table of this size is lent. Assumes nothing.
-use Rattle.grid.proofs.Phases.{zeros, ready-len}
+use Rattle.job.proofs.Puts.{zeros-at}
 use borrow.Author.Needs.{needs}
 use Rattle.grid.proofs.numbering.number_7040.Statement.{statement}
 use Rattle.grid.proofs.numbering.number_7040.Tie as tie
@@ -8,7 +8,7 @@ slice-aggregate-number-in : tie.Need-slice-aggregate-number-in
 slice-aggregate-number-in c = search needs
 
 number-in-requires : tie.Need-number-in-requires
-number-in-requires c κs = (record { ready = c .before .before .pre .0; zero-at = zeros 7040 }, c .before .before .pre .1)
+number-in-requires c κs = (record { ready = c .before .before .pre .0; zero-at = zeros-at 7040 }, c .before .before .pre .1)
 
 returns : tie.Need-returns
 returns c = search needs

@@ -1,5 +1,5 @@
 -- `grid::numbering::number_in` meets its contract: by the table's answer and the walk. Assumes nothing.
-use mathlib.Core.Path.{_≡_, refl, sym, ap, _∙_}
+use mathlib.Core.Path.{sym, _∙_}
 use borrow.Author.Tests.{not-true, not-false}
 use Rattle.grid.proofs.Laws.{cap-count, cap-over}
 use Rattle.grid.proofs.Phases.{ready-len}

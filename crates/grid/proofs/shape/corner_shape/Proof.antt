@@ -1,6 +1,5 @@
 -- `grid::shape::corner_shape` meets its contract: the steps as they stand there, with or without `D`. Assumes nothing.
 use mathlib.Core.Path.{refl}
-use mathlib.Core.Bool.{true, false}
 use borrow.Author.Needs.{needs}
 use Rattle.grid.proofs.shape.corner_shape.Statement.{statement}
 use Rattle.grid.proofs.shape.corner_shape.Tie as tie

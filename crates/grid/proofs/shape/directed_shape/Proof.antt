@@ -1,11 +1,10 @@
 -- `grid::shape::directed_shape` meets its contract: the steps are laid one by one. Assumes nothing.
-use mathlib.Core.Path.{_≡_, refl, sym, ap, _∙_}
+use mathlib.Core.Path.{_≡_, refl, sym, ap}
 use Prim.Native.Nat.{_≤_, _-_, _+_, _*_}
 use native.Mathlib.Omega.{arith}
 use Rattle.howmany.specs.Choose.{pick}
-use lib.ListN.{getD, length}
 use borrow.Author.Tests.{lt-ltb, le-ltb}
-use Rattle.grid.specs.Shapes.{Laying, Laid, Ranged}
+use Rattle.grid.specs.Shapes.{Laying}
 use Rattle.grid.proofs.Shaping.{laid-start, laid-more}
 use borrow.Author.Needs.{needs}
 use Rattle.grid.proofs.shape.directed_shape.Statement.{statement}

@@ -1,5 +1,5 @@
 -- `grid::spelling::spell_1024` meets its contract: a blank table of this size is lent. Assumes nothing.
-use Rattle.grid.proofs.Phases.{zeros}
+use Rattle.job.proofs.Puts.{zeros-at}
 use borrow.Author.Needs.{needs}
 use Rattle.grid.proofs.spelling.spell_1024.Statement.{statement}
 use Rattle.grid.proofs.spelling.spell_1024.Tie as tie
@@ -8,7 +8,7 @@ slice-aggregate-spell-in : tie.Need-slice-aggregate-spell-in
 slice-aggregate-spell-in c = search needs
 
 spell-in-requires : tie.Need-spell-in-requires
-spell-in-requires c κs = (record { ready = c .before .before .before .before .before .before .pre .0; zero-at = zeros 1024 }, c .before .before .before .before .before .before .pre .1)
+spell-in-requires c κs = (record { ready = c .before .before .before .before .before .before .pre .0; zero-at = zeros-at 1024 }, c .before .before .before .before .before .before .pre .1)
 
 same-length : tie.Need-same-length
 same-length c = search needs

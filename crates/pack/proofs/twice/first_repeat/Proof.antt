@@ -9,7 +9,8 @@ use Rattle.howmany.specs.Least.{least}
 use Rattle.rules.specs.Packs.{edgesFrom}
 use Rattle.rules.specs.Questions.{equals, twiceIn}
 use Rattle.job.specs.Replies.Reply.{value}
-use Rattle.pack.proofs.Listed.{edges-length, equals-is}
+use Rattle.rules.proofs.PackLaws.{edges-length}
+use Rattle.pack.proofs.Listed.{equals-is}
 use Rattle.pack.proofs.Searches.{least-more, repeats, alone, twice-at, twice-none}
 use Rattle.pack.proofs.twice.first_repeat.Statement.{statement}
 use Rattle.pack.proofs.twice.first_repeat.Tie as tie

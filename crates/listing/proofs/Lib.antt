@@ -1,0 +1,10 @@
+pub mod Appending
+pub mod Decimals
+pub mod Lengths
+pub mod Cutting
+pub mod Printing
+pub mod Telling
+pub mod Putting
+pub mod Samples
+pub mod Longest
+pub mod Ends

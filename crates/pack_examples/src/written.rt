@@ -1,0 +1,85 @@
+// Packs written, and read back.
+use crate::jobs::corner;
+use crate::jobs::empty_edges;
+use crate::jobs::twins;
+use crate::say;
+
+fn few() {
+    let mut out = [b'.'; 40];
+    say::text(b"Motzkin 3, numbers 0 and 3\n");
+    say::write(&corner(5, 3, 3), &[0, 3], &mut out);
+    say::text(&out[32..]);
+    say::text(b"\n");
+    say::edge(&out[0..38], 0);
+    say::edge(&out[0..38], 1);
+    say::edge(&out[0..38], 2);
+    say::edge(&out[0..38], 18446744073709551615);
+    say::repeat(&out[0..38]);
+}
+
+fn none() {
+    let mut out = [b'.'; 30];
+    say::text(b"no numbers\n");
+    say::write(&corner(5, 3, 3), &[], &mut out);
+    say::text(&out[28..]);
+    say::text(b"\n");
+    say::edge(&out[0..28], 0);
+    say::repeat(&out[0..28]);
+}
+
+fn pack_of(numbers: &[u64]) {
+    let mut out = [b'.'; 2000];
+    say::write(&corner(1, 3, 3), numbers, &mut out);
+    say::edge(&out[0..1628], 199);
+    say::edge(&out[0..1628], 200);
+    say::repeat(&out[0..1628]);
+}
+
+// The job's twenty edges, again and again, c of them.
+fn many(c: usize) {
+    let mut numbers = [0u64; 256];
+    let mut i: usize = 0;
+    while i < 256 {
+        numbers[i] = (i % 20) as u64;
+        i += 1;
+    }
+    if c <= 256 {
+        pack_of(&numbers[0..c]);
+    }
+}
+
+fn full() {
+    say::text(b"200 and 201 numbers\n");
+    many(200);
+    many(201);
+}
+
+fn refused() {
+    let mut out = [b'.'; 37];
+    say::text(b"refused, and nothing is written: 1, 2, 3, 4, 6, 7\n");
+    say::write(&corner(8, 3, 3), &[0], &mut out);
+    say::write(&corner(1, 65, 0), &[0], &mut out);
+    say::write(&twins(), &[0], &mut out);
+    say::write(&corner(2, 37, 37), &[0], &mut out);
+    say::write(&corner(5, 3, 3), &[0, 4], &mut out);
+    say::write(&corner(5, 3, 3), &[0, 3], &mut out);
+    say::text(&out);
+    say::text(b"\n");
+}
+
+fn repeats() {
+    let mut out = [b'.'; 48];
+    say::text(b"A B B A, and empty edges\n");
+    say::write(&corner(5, 3, 3), &[0, 3, 3, 0], &mut out);
+    say::repeat(&out);
+    say::edge(&empty_edges(), 1);
+    say::repeat(&empty_edges());
+}
+
+pub(crate) fn run() {
+    few();
+    none();
+    full();
+    refused();
+    repeats();
+}
