@@ -23,7 +23,7 @@ use Rattle.backward.specs.Grid.{Spot, grid, paths}
 use Rattle.backward.proofs.Backward.{unrank-start, unrank-step}
 use Rattle.backward.proofs.Grids.{grid-lawful}
 use Rattle.grid.specs.Form.{stepsIn, spot, W, via}
-use Rattle.grid.specs.Letters.{glyphOf}
+use Rattle.letters.specs.Letters.{glyphOf}
 use Rattle.grid.specs.Cells.{place}
 use Rattle.grid.specs.Table.{Plan}
 use Rattle.grid.specs.Edges.{endOf, edgeOf, Stand, Reads, Sought, Spelling}

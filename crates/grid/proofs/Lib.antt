@@ -5,7 +5,6 @@ pub mod Columns
 pub mod Turns
 pub mod Phases
 pub mod Prepare
-pub mod Glyphs
 pub mod Reading
 pub mod Numbers
 pub mod Building

@@ -22,7 +22,7 @@ use Rattle.backward.specs.Grid.{grid, paths}
 use Rattle.backward.proofs.Backward.{rank-below}
 use Rattle.backward.proofs.Grids.{grid-lawful, back-count}
 use Rattle.grid.specs.Form.{stepsIn, spot, W, via}
-use Rattle.grid.specs.Letters.{placeOf}
+use Rattle.letters.specs.Letters.{placeOf}
 use Rattle.grid.specs.Cells.{capOf, cellAt, strideOf, place, sourceOf}
 use Rattle.grid.specs.Table.{Plan, Prepared, Cells}
 use Rattle.grid.specs.Filling.{Solid}

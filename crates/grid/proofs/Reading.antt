@@ -26,7 +26,7 @@ use Rattle.backward.specs.Grid.{grid}
 use Rattle.backward.proofs.Backward.{valid-stop, valid-no-letter, none-valid}
 use Rattle.backward.proofs.Grids.{grid-lawful}
 use Rattle.grid.specs.Form.{stepsIn, spot, Form}
-use Rattle.grid.specs.Letters.{placeOf}
+use Rattle.letters.specs.Letters.{placeOf}
 use Rattle.grid.specs.Edges.{endOf, isEdge}
 use Rattle.grid.proofs.Laws.{mul-bound}
 

@@ -39,7 +39,7 @@ use Rattle.rules.proofs.Corners.{north-east-shear, delannoy-shear}
 use Rattle.rules.proofs.Slopes.{digit-at, digit-place, slope-shear}
 use Rattle.rules.proofs.Demand3.{InRange}
 use Rattle.grid.specs.Form.{spot}
-use Rattle.grid.specs.Letters.{placeOf, glyphOf}
+use Rattle.letters.specs.Letters.{placeOf, glyphOf}
 use Rattle.grid.specs.Edges as edges
 use Rattle.grid.specs.Shapes.{Grids, isCorner, Sits, Fits}
 use Rattle.grid.specs.declared.shape.Shape.{Shape}

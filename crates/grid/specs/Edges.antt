@@ -21,7 +21,7 @@ use Rattle.backward.specs.Reader.{valid, rank, unrank}
 use Rattle.backward.specs.Walk.{enter}
 use Rattle.backward.specs.Grid.{Spot, grid, way}
 use Rattle.grid.specs.Form.{stepsIn, spot, W, via}
-use Rattle.grid.specs.Letters.{glyphOf, wordOf}
+use Rattle.letters.specs.Letters.{glyphOf, wordOf}
 use Rattle.grid.specs.Cells.{sourceOf, place}
 use Rattle.grid.specs.Table.{Ready, Ends}
 use Rattle.grid.specs.Filling.{Solid}

@@ -4,10 +4,28 @@ ghost use Prim.Native.Nat.{_≤_, _<_};
 ghost use lib.ListN.{length, drop};
 ghost use Rattle.howmany.specs.Sum.{sum};
 ghost use Rattle.grid.specs.Form.{Form, via};
+ghost use Rattle.letters.specs.Letters.{glyphOf};
 ghost use Rattle.grid.specs.Edges.{isEdge, numberOf, edgeOf, Reads, Ranking, Sought, Spelling};
 use crate::column::source;
-use crate::letters::glyph_of;
-use crate::letters::place_of;
+use job::Step;
+use letters::place_of;
+
+// The byte of step i.
+fn glyph_of(corner: bool, i: usize) -> u8
+    requires { ⌜ i < 8 ⌝ }
+    ensures { λ r. ⌜ r ≡ glyphOf corner i ⌝ }
+{
+    if corner {
+        if i == 0 {
+            return Step::NORTH;
+        }
+        if i == 1 {
+            return Step::EAST;
+        }
+        return Step::DIAGONAL;
+    }
+    (i + Step::FIRST as usize) as u8
+}
 
 // Whether e is an edge to (ex, ey).
 pub(crate) fn valid(

@@ -12,7 +12,6 @@ mod cone;
 mod counting;
 mod edges;
 mod flags;
-mod letters;
 mod numbering;
 mod plan;
 mod shape;

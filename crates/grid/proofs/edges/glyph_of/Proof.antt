@@ -1,7 +1,7 @@
-use Rattle.grid.proofs.Glyphs.{glyph-n, glyph-e, glyph-d, glyph-digit}
+use Rattle.letters.proofs.Glyphs.{glyph-n, glyph-e, glyph-d, glyph-digit}
 use borrow.Author.Needs.{needs}
-use Rattle.grid.proofs.letters.glyph_of.Statement.{statement}
-use Rattle.grid.proofs.letters.glyph_of.Tie as tie
+use Rattle.grid.proofs.edges.glyph_of.Statement.{statement}
+use Rattle.grid.proofs.edges.glyph_of.Tie as tie
 
 returns : tie.Need-returns
 returns c = glyph-n _ _ (c .before .if1 .taken) (c .if2 .taken)

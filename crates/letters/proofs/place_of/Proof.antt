@@ -1,9 +1,9 @@
 use mathlib.Core.Path.{ap, _∙_}
 use Prim.Native.Nat.{ℕ, _-_}
-use Rattle.grid.proofs.Glyphs.{place-n, place-e, place-d, place-no, place-low, place-high, place-digit}
+use Rattle.letters.proofs.Glyphs.{place-n, place-e, place-d, place-no, place-low, place-high, place-digit}
 use borrow.Author.Needs.{needs}
-use Rattle.grid.proofs.letters.place_of.Statement.{statement}
-use Rattle.grid.proofs.letters.place_of.Tie as tie
+use Rattle.letters.proofs.place_of.Statement.{statement}
+use Rattle.letters.proofs.place_of.Tie as tie
 
 returns : tie.Need-returns
 returns c = place-n _ _ (c .before .if1 .taken) (c .if2 .taken)

@@ -9,7 +9,7 @@ use Prim.Native.Nat.{ℕ, zero, suc, _+_, _-_, _≤_, _<_}
 use native.Mathlib.Omega.{arith}
 use native.Mathlib.Nat.{add-sub-cancel}
 use borrow.Author.Tests.{lt-ltb, le-ltb, eq-eqb, ne-eqb}
-use Rattle.grid.specs.Letters.{placeOf, glyphOf}
+use Rattle.letters.specs.Letters.{placeOf, glyphOf}
 
 module _ (corner : Bool) (b : ℕ) where
   module _ (e : corner ≡ true) where

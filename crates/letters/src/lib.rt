@@ -1,0 +1,35 @@
+// Which step a byte of an edge stands for: corners N E D for families 1 and 3, the digits 1 to 8 for families 6 and 7.
+ghost use mathlib.Core.Path.{_≡_};
+ghost use Rattle.letters.specs.Letters.{placeOf};
+use job::Step;
+
+fn wide(x: u8) -> usize
+    ensures { λ r. ⌜ r ≡ x ⌝ }
+{
+    x as usize
+}
+
+// Which step the byte b stands for; 8 where it is no letter.
+pub fn place_of(corner: bool, b: u8) -> usize
+    ensures { λ r. ⌜ r ≡ placeOf corner b ⌝ }
+{
+    if corner {
+        if b == Step::NORTH {
+            return 0;
+        }
+        if b == Step::EAST {
+            return 1;
+        }
+        if b == Step::DIAGONAL {
+            return 2;
+        }
+        return 8;
+    }
+    if b < Step::FIRST {
+        return 8;
+    }
+    if 56 < b {
+        return 8;
+    }
+    wide(b) - Step::FIRST as usize
+}
