@@ -99,14 +99,10 @@ fn wide(x: u8) -> usize
     x as usize
 }
 
-// Whether the block is of a family that stays at y ≤ x: 2, 4 or 5.
-pub fn is_square(block: &[u8]) -> bool
-    ensures { λ r. ⌜ r ≡ square (familyOf (now (block .entry))) ⌝ }
+// Whether the family stays at y ≤ x: 2, 4 or 5.
+pub fn is_square_family(family: u8) -> bool
+    ensures { λ r. ⌜ r ≡ square family ⌝ }
 {
-    if block.len() == 0 {
-        return false;
-    }
-    let family = block[0];
     if family == 2 {
         return true;
     }
@@ -114,6 +110,16 @@ pub fn is_square(block: &[u8]) -> bool
         return true;
     }
     family == 5
+}
+
+// Whether the block is of such a family.
+pub fn is_square(block: &[u8]) -> bool
+    ensures { λ r. ⌜ r ≡ square (familyOf (now (block .entry))) ⌝ }
+{
+    if block.len() == 0 {
+        return false;
+    }
+    is_square_family(block[0])
 }
 
 // Whether every byte is zero.

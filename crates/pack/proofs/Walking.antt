@@ -6,6 +6,7 @@
 --   past                   nothing leads back to the end from beyond it
 --   Going, going, steps-as    the loop's own numbers are the job's
 --   Walking, walking-start, not-step, not-back, not-inside, walking-more, walked    the loop of `walk`
+--   place-capped, place-none    a place among the first k, or k
 --   digit-none             a byte that is no digit of the steps
 --   stepped                a held job with its steps as pairs; held-n, to-walk, from-walk: what `is_edge` hands on
 use mathlib.Core.Path.{_≡_, refl, sym, ap, ap₂, _∙_, subst}
@@ -36,6 +37,7 @@ use Rattle.rules.proofs.Slopes.{numbered-length, digit-at, digit-place}
 use Rattle.job.specs.declared.Job.{Job}
 use Rattle.job.specs.Stands.{Directed, Stands}
 use Rattle.job.specs.Stands.Stands.{as-north-east, as-dyck, as-delannoy, as-schroder, as-motzkin, as-open, as-fenced}
+use Rattle.letters.specs.Letters as letters
 use Rattle.pack.specs.Walks.{WalksAs, cornerJob, withSteps, placeOf, keepsIn, inside, Held, Strides, Stepped, HasSteps, Paced, StepsAs}
 
 -- ---- tests of a difference
@@ -247,9 +249,22 @@ module _ {family k : ℕ} {a b : List ℕ} {n up : ℕ} {e : List ℕ} {x h i : 
 
 -- ---- a held job with its steps as pairs
 
-corner-place : (family k b : ℕ) → family ≤ 5 → placeOf family k b ≡ pick (eqb b N) 0 (pick (eqb b E) 1 (pick (eqb b D) 2 k))
-unfolding placeOf
-corner-place family k b l = rw (le-leb family 5 l)
+-- a place among the first k, or k
+abbrev capped : ℕ → ℕ → ℕ
+capped k l = pick (ltb l k) l k
+
+module _ (family k b l : ℕ) (e : l ≡ letters.placeOf (leb family 5) b) where
+  pub place-capped : l < k → l ≡ placeOf family k b
+  unfolding placeOf
+  place-capped h = rw (sym e, lt-ltb l k h) refl
+
+  pub place-none : k ≤ l → k ≡ placeOf family k b
+  unfolding placeOf
+  place-none h = rw (sym e, le-ltb l k h) refl
+
+corner-place : (family k b : ℕ) → family ≤ 5 → placeOf family k b ≡ capped k (pick (eqb b N) 0 (pick (eqb b E) 1 (pick (eqb b D) 2 8)))
+unfolding placeOf letters.placeOf
+corner-place family k b l = rw (le-leb family 5 l) refl
 
 module _ (family n m u : ℕ) (lf : family ≤ 5) (lu : u ≤ 2) where
   two-strides : Strides family 2 (cornerJob family n m 2 u .a) (cornerJob family n m 2 u .b) (step N 0 (pos u) ∷ step E u (pos 0) ∷ [])
@@ -264,7 +279,7 @@ module _ (family n m u : ℕ) (lf : family ≤ 5) (lu : u ≤ 2) where
     upward = two (λ i. 128 ≤ getD (cornerJob family n m 2 u .b) i 0 + 3 * getD (cornerJob family n m 2 u .a) i 0) (omega arith) (omega arith);
   }
     where
-      go : (a b c : Bool) → pick a 0 (suc (pick b 0 (suc 0))) ≡ pick a 0 (pick b 1 (pick c 2 2))
+      go : (a b c : Bool) → pick a 0 (suc (pick b 0 (suc 0))) ≡ capped 2 (pick a 0 (pick b 1 (pick c 2 8)))
       go true b c = refl
       go false true c = refl
       go false false true = refl
@@ -282,7 +297,7 @@ module _ (family n m u : ℕ) (lf : family ≤ 5) (lu : u ≤ 2) where
     upward = three (λ i. 128 ≤ getD (cornerJob family n m 3 u .b) i 0 + 3 * getD (cornerJob family n m 3 u .a) i 0) (omega arith) (omega arith) (omega arith);
   }
     where
-      go : (a b c : Bool) → pick a 0 (suc (pick b 0 (suc (pick c 0 (suc 0))))) ≡ pick a 0 (pick b 1 (pick c 2 3))
+      go : (a b c : Bool) → pick a 0 (suc (pick b 0 (suc (pick c 0 (suc 0))))) ≡ capped 3 (pick a 0 (pick b 1 (pick c 2 8)))
       go true b c = refl
       go false true c = refl
       go false false true = refl
@@ -294,21 +309,24 @@ digit-none d [] b o = refl
 digit-none d (p ∷ ps) b (inl o) = rw (ne-eqb b d (λ e. omega arith)) (ap suc (digit-none (suc d) ps b (inl (omega arith))))
 digit-none d (p ∷ ps) b (inr o) = rw (ne-eqb b d (λ e. omega arith)) (ap suc (digit-none (suc d) ps b (inr (omega arith))))
 
-digits : (family : ℕ) (ps : List Pair) (b : ℕ) → 5 < family → place b (numbered one ps) ≡ placeOf family (length ps) b
-unfolding placeOf
-digits family ps b l = rw (lt-leb family 5 l) (go (decLt b one) (decLt (b - one) (length ps)))
+digits : (family : ℕ) (ps : List Pair) (b : ℕ) → 5 < family → length ps ≤ 8 → place b (numbered one ps) ≡ placeOf family (length ps) b
+unfolding placeOf letters.placeOf
+digits family ps b l few = rw (lt-leb family 5 l) (go (decLt b one) (decLt (b - one) (length ps)) (decLt 56 b))
   where
-    go : Dec (b < one) → Dec (b - one < length ps) → place b (numbered one ps) ≡ pick (ltb b one) (length ps) (pick (ltb (b - one) (length ps)) (b - one) (length ps))
-    go (yes o) d = rw (lt-ltb b one o) (digit-none one ps b (inl o))
-    go (no o) (yes d) =
+    go : Dec (b < one) → Dec (b - one < length ps) → Dec (56 < b) → place b (numbered one ps) ≡ capped (length ps) (pick (ltb b one) 8 (pick (ltb 56 b) 8 (b - one)))
+    go (yes o) d h = rw (lt-ltb b one o, le-ltb 8 (length ps) few) (digit-none one ps b (inl o))
+    go (no o) (yes d) h =
         let e : b ≡ one + (b - one) = omega arith in
-        rw (le-ltb b one (omega arith), lt-ltb (b - one) (length ps) d) (ap (λ (c : ℕ). place c (numbered one ps)) e ∙ digit-place one ps (b - one) d)
-    go (no o) (no d) = rw (le-ltb b one (omega arith), le-ltb (b - one) (length ps) (omega arith)) (digit-none one ps b (inr (omega arith)))
+        rw (le-ltb b one (omega arith), le-ltb 56 b (omega arith), lt-ltb (b - one) (length ps) d)
+        (ap (λ (c : ℕ). place c (numbered one ps)) e ∙ digit-place one ps (b - one) d)
+    go (no o) (no d) (yes h) = rw (le-ltb b one (omega arith), lt-ltb 56 b h, le-ltb 8 (length ps) few) (digit-none one ps b (inr (omega arith)))
+    go (no o) (no d) (no h) =
+        rw (le-ltb b one (omega arith), le-ltb 56 b (omega arith), le-ltb (b - one) (length ps) (omega arith)) (digit-none one ps b (inr (omega arith)))
 
 digit-strides : (j : Job) (m : ℤ) (ps : List Pair) → Directed j m ps → 5 < j .family → Strides (j .family) (j .k) (j .a) (j .b) (numbered one ps)
 digit-strides j m ps d l = record {
   many = numbered-length one ps ∙ d .many;
-  letters = λ b. digits (j .family) ps b l ∙ ap (λ (k : ℕ). placeOf (j .family) k b) (d .many);
+  letters = λ b. digits (j .family) ps b l (omega (arith, d .many, d .few)) ∙ ap (λ (k : ℕ). placeOf (j .family) k b) (d .many);
   a-is = λ i o. digit-at one ps i (omega (arith, d .many)) .right ∙ sym (d .a-is i o);
   b-is = λ i o. subst (λ (z : ℤ). Is z (getD (j .b) i 0) 128) (sym (digit-at one ps i (omega (arith, d .many)) .up)) (d .b-is i o);
   a-most = d .a-most;

@@ -12,14 +12,15 @@
 use mathlib.Core.Path.{_≡_}
 use mathlib.Core.Bool.{Bool, true}
 use mathlib.Core.List.{List, [], _∷_}
-use Prim.Native.Nat.{ℕ, _+_, _-_, _*_, _≤_, _<_}
+use Prim.Native.Nat.{ℕ, _+_, _*_, _≤_, _<_}
 use lib.Dec.{leb, ltb, eqb}
 use lib.IntN.{pos}
 use lib.ListN.{length, getD}
 use Rattle.howmany.specs.Choose.{pick}
 use Rattle.rules.specs.Points.{Point, Step, origin, leℤ}
 use Rattle.rules.specs.Jobs as rules
-use Rattle.rules.specs.Jobs.{N, E, D, one, stepsOf, endOf, stays}
+use Rattle.letters.specs.Letters as letters
+use Rattle.rules.specs.Jobs.{stepsOf, endOf, stays}
 use Rattle.rules.specs.Valid.{place, at, walks}
 use Rattle.rules.specs.Blocks.{square}
 use Rattle.rules.specs.Shear.{Is}
@@ -59,7 +60,8 @@ withSteps j =
 -- "`1` to k, the first k pairs" in families 6 and 7
 unfoldable pub placeOf : ℕ → ℕ → ℕ → ℕ
 placeOf family k b =
-    pick (leb family 5) (pick (eqb b N) 0 (pick (eqb b E) 1 (pick (eqb b D) 2 k))) (pick (ltb b one) k (pick (ltb (b - one) k) (b - one) k))
+    let place = letters.placeOf (leb family 5) b in
+    pick (ltb place k) place k
 
 -- the column "Stays": y ≤ x in families 2, 4 and 5, y ≥ 0 in family 7
 unfoldable pub keepsIn : ℕ → Point → Bool

@@ -1,10 +1,8 @@
 // Whether one edge is valid, by walking its steps alone: no table is filled (document 01, "Valid").
 ghost use mathlib.Core.Path.{_≡_};
 ghost use Prim.Native.Nat.{_≤_};
-ghost use Rattle.rules.specs.Blocks.{square};
 ghost use Rattle.pack.specs.Walks.{Held, WalksAs, cornerJob, withSteps, placeOf, inside, Paced, StepsAs};
 use job::Job;
-use job::Step;
 
 fn wide(x: u8) -> usize
     ensures { λ r. ⌜ r ≡ x ⌝ }
@@ -56,39 +54,11 @@ fn with_steps(job: Job) -> Job
 fn place_of(family: u8, k: usize, letter: u8) -> usize
     ensures { λ r. ⌜ r ≡ placeOf family k letter ⌝ }
 {
-    if family <= Job::CORNERS {
-        if letter == Step::NORTH {
-            return 0;
-        }
-        if letter == Step::EAST {
-            return 1;
-        }
-        if letter == Step::DIAGONAL {
-            return 2;
-        }
-        return k;
-    }
-    if letter < Step::FIRST {
-        return k;
-    }
-    let i = wide(letter - Step::FIRST);
-    if i < k {
-        return i;
+    let place = letters::place_of(family <= Job::CORNERS, letter);
+    if place < k {
+        return place;
     }
     k
-}
-
-// Families 2, 4 and 5.
-fn is_square(family: u8) -> bool
-    ensures { λ r. ⌜ r ≡ square family ⌝ }
-{
-    if family == 2 {
-        return true;
-    }
-    if family == 4 {
-        return true;
-    }
-    family == 5
 }
 
 // The "stays" rule at x and the raised height h = y + 3x + 128.
@@ -96,7 +66,7 @@ fn is_inside(family: u8, x: usize, h: usize) -> bool
     requires { ⌜ x ≤ 64 ⌝ }
     ensures { λ r. ⌜ r ≡ inside family x h ⌝ }
 {
-    if is_square(family) {
+    if job::is_square_family(family) {
         return h <= 4 * x + 128;
     }
     if family == 7 {

@@ -3,8 +3,8 @@
 --   counted-one, sized-one, numbered-one    answers that say one reply: `count`, `width` and `number` of every crate
 --   built-one                               a write: its answer and the output's bytes; `calls::build`, `packing::write` and `job::put`
 --   lined-one                               `build_all` of every crate: its answer, the steps' bytes and the ends
---   equal-one                               a contract that is an equation: `Job::of`, `job::is_square`, `letters::place_of`, `lines::has_room`, `lines::all_below`,
---                                           `pack::edge_refusal`, `questions::earlier_refusal`
+--   equal-one                               a contract that is an equation: `Job::of`, `job::is_square`, `job::is_square_family`, `letters::place_of`,
+--                                           `lines::has_room`, `lines::all_below`, `pack::edge_refusal`, `questions::earlier_refusal`
 --   which-one, dips-one, parted-one, repeats-one    `questions::compare` and `dip`, `pack::part` and `repeat`
 --   Alike, part-one, edge-one, handed-one   what is handed back: `pack::edge` and `questions::earlier` point to one place, and hold the same bytes
 --   seen-one, seen-write-one, seen-dip-one, seen-second-one, seen-part-one, seen-repeat-one    the calls for C: the result and every lent byte
