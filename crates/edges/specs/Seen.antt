@@ -37,6 +37,7 @@ pub record SeenWrite (w : Written) (r before after : ℕ) (output : List ℕ) : 
   pub seen : Seen (w .answer) r before after
   pub bytes : output ≡ w .output
 
+-- the header: "0 or 1; where there is no dip, or no repeat, the places are left as they were"
 abbrev pub found : {A : Type 0} → Reply (Option A) → ℕ → ℕ
 found (value none) before = 0
 found (value (some a)) before = 1
@@ -47,12 +48,13 @@ of f (value none) before = before
 of f (value (some a)) before = f a
 of f (refusal r) before = before
 
+-- "yes exactly if a step with b below 0 has a later step with b above 0; with the place of the first such later step"
 pub record SeenDip (a : Answer (Option ℕ)) (r dips place dips-after place-after : ℕ) : Type 0 where
   pub result : r ≡ code (reply a)
   pub yes : dips-after ≡ found (reply a) dips
   pub where-first : place-after ≡ of (λ i. i) (reply a) place
 
--- 1 "exactly if the second lent edge is the earlier one"
+-- "Earlier of two", told by 1 for the second lent edge and 0 for the first: "of equal ones the first"
 abbrev pub secondIn : Reply Bool → ℕ → ℕ
 secondIn (value t) before = bit t
 secondIn (refusal r) before = before
@@ -61,6 +63,7 @@ pub record SeenSecond (a : Answer Bool) (r second second-after : ℕ) : Type 0 w
   pub result : r ≡ code (reply a)
   pub which : second-after ≡ secondIn (reply a) second
 
+-- "Edge i of a pack: handed back as part of the pack", told by where it begins and ends
 abbrev pub placeIn : (Part → ℕ) → Reply Part → ℕ → ℕ
 placeIn f (value p) before = f p
 placeIn f (refusal r) before = before
@@ -70,6 +73,7 @@ pub record SeenPart (a : Answer Part) (r start end start-after end-after : ℕ) 
   pub begins : start-after ≡ placeIn (λ p. p .start) (reply a) start
   pub ends : end-after ≡ placeIn (λ p. p .end) (reply a) end
 
+-- "in a pack, the first edge that equals an earlier one, with the earliest it equals, or none"
 pub record SeenRepeat (a : Answer (Option Twice)) (r yes later earlier yes-after later-after earlier-after : ℕ) : Type 0 where
   pub result : r ≡ code (reply a)
   pub some-repeat : yes-after ≡ found (reply a) yes

@@ -9,6 +9,7 @@ use Prim.Native.Nat.{ℕ, _+_, _-_}
 use lib.Dec.{ltb, eqb}
 use Rattle.howmany.specs.Choose.{pick}
 
+-- "`N` before `E` before `D`; digits by value"
 unfoldable pub placeOf : Bool → ℕ → ℕ
 placeOf true b = pick (eqb b 78) 0 (pick (eqb b 69) 1 (pick (eqb b 68) 2 8))
 placeOf false b = pick (ltb b 49) 8 (pick (ltb 56 b) 8 (b - 49))
@@ -17,5 +18,6 @@ unfoldable pub glyphOf : Bool → ℕ → ℕ
 glyphOf true i = pick (eqb i 0) 78 (pick (eqb i 1) 69 68)
 glyphOf false i = i + 49
 
+-- "Compare two edges from their last steps backwards"
 abbrev pub wordOf : Bool → List ℕ → List ℕ
 wordOf corner e = reverse (map (placeOf corner) e)

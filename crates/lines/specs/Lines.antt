@@ -20,10 +20,12 @@ use Rattle.rules.specs.Packs.{joined}
 use Rattle.job.specs.declared.Built.{Built}
 use Rattle.job.specs.Replies.{reply, buildSays}
 
+-- where a pack's offsets after the first come from: "offsets .. measured from the pack's start", less where the first edge begins
 unfoldable pub endsFrom : ℕ → List (List ℕ) → List ℕ
 endsFrom at [] = []
 endsFrom at (e ∷ es) = (at + length e) ∷ endsFrom (at + length e) es
 
+-- "7 Room" of this call: asked for the longest edge of each number, since no edge is known before the first is written
 abbrev pub roomy : ℕ → ℕ → ℕ → Bool
 roomy many steps ends = leb many ends && leb (128 * many) steps
 
@@ -36,9 +38,11 @@ pub record Lined : Type 0 where
   pub steps : List ℕ
   pub ends : List ℕ
 
+-- "A refusal returns its number alone and writes nothing"
 abbrev pub untouched : Refusal → List ℕ → List ℕ → Lined
 untouched r steps ends = record { answer = refused r; steps = steps; ends = ends }
 
+-- "An accepted write fills the front of the output, reports its length and touches nothing behind it."
 unfoldable pub lined : Answer (List (List ℕ)) → List ℕ → List ℕ → Lined
 unfolding joined endsFrom
 lined (accepted es) steps ends = record {

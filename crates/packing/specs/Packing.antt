@@ -21,13 +21,16 @@ use Rattle.job.specs.Replies.{reply, buildSays}
 abbrev pub pasted : List ℕ → ℕ → List ℕ → List ℕ
 pasted out at s = take at out ++ (s ++ drop (at + length s) out)
 
+-- "The first four bytes are `EDG1`; then the job block at 4; the edge count c at 24"; "The first offset is 28+2c"
 abbrev pub frontOf : List ℕ → ℕ → List ℕ
 frontOf block c = mark ++ (block ++ (two c ++ two (28 + 2 * c)))
 
+-- "c+1 offsets of two bytes at 26, measured from the pack's start"
 unfoldable pub offsetsOf : ℕ → List ℕ → List ℕ
 offsetsOf first [] = []
 offsetsOf first (e ∷ ends) = two (first + e) ++ offsetsOf first ends
 
+-- "then the step bytes"
 unfoldable pub packFrom : List ℕ → List ℕ → List ℕ → List ℕ
 unfolding offsetsOf
 packFrom block ends steps = frontOf block (length ends) ++ (offsetsOf (28 + 2 * length ends) ends ++ steps)
@@ -49,7 +52,7 @@ pub record Places (out : List ℕ) (first : ℕ) (ends : List ℕ) : Type 0 wher
   pub low : first ≤ 428
   pub within : (i : ℕ) → i < length ends → getD ends i 0 ≤ 25600
 
--- "10 Many", after 1 to 4
+-- "10 Many: more than 200 numbers to pack"; "then 1, 2, 3, 4; then 10, 11"
 abbrev pub tooMany : List ℕ → Answer ℕ
 tooMany b = andThen (knownJob b) (λ J. refused many)
 

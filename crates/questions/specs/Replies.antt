@@ -22,7 +22,7 @@ use Rattle.questions.specs.declared.Which.the-variants.{First, Second, R
 use Rattle.questions.specs.declared.Dips.{Dips}
 use Rattle.questions.specs.declared.Dips.the-variants.{At, Never, Refused as DipRefused}
 
--- whether the second is the earlier one
+-- "Earlier of two": whether the second is the earlier one
 abbrev pub whichSays : Which → Reply Bool
 whichSays First = value false
 whichSays Second = value true
@@ -32,6 +32,7 @@ abbrev pub whichOf : Bool → Which
 whichOf true = Second
 whichOf false = First
 
+-- "Dip": the place, or none
 abbrev pub dipSays : Dips → Reply (Option ℕ)
 dipSays (At i) = value (some i)
 dipSays Never = value none

@@ -17,3 +17,4 @@ pub mod Lengths
 pub mod PackLaws
 pub mod Belows
 pub mod Packed
+pub mod Firsts

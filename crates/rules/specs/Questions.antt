@@ -77,6 +77,7 @@ partAnswer p i =
 abbrev pub equals : List (List ℕ) → ℕ → ℕ → Bool
 equals es i j = sameBytes (getD es i []) (getD es j [])
 
+-- "the earliest it equals"
 unfoldable pub partner : List (List ℕ) → ℕ → ℕ
 unfolding least sameBytes
 partner es i = least (equals es i) i
@@ -92,6 +93,7 @@ twiceIn es =
     let i = least (λ k. ltb (partner es k) k) (length es) in
     onlyIf (ltb i (length es)) (record { later = i; earlier = partner es i })
 
+-- every question on a pack has its refusals
 unfoldable pub repeatAnswer : List ℕ → Answer (Option Twice)
 unfolding readAnswer twiceIn
 repeatAnswer p = andThen (readAnswer p) (λ k. accepted (twiceIn (k .edges)))
@@ -104,6 +106,7 @@ secondAnswer block a b = andThen (numberAnswer block a) (λ x. andThen (numberAn
 abbrev pub slope : Job → List ℕ → ℕ → ℤ
 slope J e i = at (stepsOf J) (place (getD e i 0) (stepsOf J)) .b
 
+-- "a step with b below 0", before j
 unfoldable pub fallen : Job → List ℕ → ℕ → Bool
 unfolding place least
 fallen J e j = ltb (least (λ i. leℤ (slope J e i) (negsuc 0)) j) j
@@ -116,6 +119,7 @@ dipOf J e =
     let j = least (λ i. leℤ (pos 1) (slope J e i) && fallen J e i) (length e) in
     onlyIf (ltb j (length e)) j
 
+-- "Dip (families 6 and 7)"
 abbrev pub isDirected : Job → Bool
 isDirected (north-east n m) = false
 isDirected (dyck n) = false
