@@ -1,4 +1,5 @@
 pub mod Backward
 pub mod Walks
 pub mod Grids
-pub mod Alike
+pub mod Carried
+pub mod Shears

@@ -1,3 +1,4 @@
 pub mod Reader
 pub mod Walk
 pub mod Grid
+pub mod Shears

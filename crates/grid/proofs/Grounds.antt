@@ -2,16 +2,20 @@
 --
 --   grids-of          a job that isn't of family 2, 4 or 5 is one of the grid's
 --   end-count         the count of a job, by its own grid
+--   Walked, walked    the grid that a shape shows and the shape's own have the same walks to their ends
 --   shape-count       the count of a job, by the grid of its shape
 use mathlib.Core.Path.{_≡_, refl, sym, _∙_, subst}
 use mathlib.Core.Bool.{Bool, true, false}
-use Prim.Native.Nat.{ℕ}
+use Prim.Native.Nat.{ℕ, _<_}
 use lib.Dec.{T}
 use lib.IntN.{pos}
 use lib.ListN.{getD}
 use borrow.Author.Tests.{eq-eqb}
-use Rattle.backward.specs.Grid.{Spot, paths}
-use Rattle.backward.proofs.Alike.{paths-alike}
+use Rattle.backward.specs.Walk.{enter}
+use Rattle.backward.specs.Grid.{Spot, Steps, grid, way, paths}
+use Rattle.backward.specs.Shears.{Lower, Across}
+use Rattle.backward.proofs.Carried.{Led, Carries, count-carried}
+use Rattle.backward.proofs.Shears.{slid-carries, slid-enters, mirrored-carries, mirrored-enters}
 use Rattle.rules.specs.Jobs as rules
 use Rattle.rules.specs.Jobs.Job.{north-east, dyck, delannoy, schroder, motzkin, directed}
 use Rattle.rules.specs.Counts.{countOf}
@@ -23,8 +27,9 @@ use Rattle.rules.proofs.Demand3.{InRange}
 use Rattle.job.specs.declared.Job.{Job}
 use Rattle.job.specs.Stands.{Stands}
 use Rattle.job.specs.Stands.Stands.{as-dyck, as-schroder, as-motzkin, as-open, as-fenced}
-use Rattle.grid.specs.Form.{spot, W}
-use Rattle.grid.specs.Shapes.{Grids, Sits, Fits}
+use Rattle.grid.specs.Form.{W}
+use Rattle.grid.specs.Shapes.{Grids, Sits, stepsAt, endAt, Shows, Fits}
+use Rattle.grid.specs.Shapes.Shows.{slid, mirrored}
 use Rattle.grid.specs.declared.shape.Shape.{Shape}
 use Rattle.grid.proofs.Shaping.{small}
 
@@ -65,10 +70,32 @@ end-count (schroder n) r q s = absurd s
 end-count (motzkin n) r q s = absurd s
 end-count (directed f n m p) r q s = slope-shear f p r n m .agrees (record { x = n; y = m }) q s
 
+pub record Walked (G : Steps) (q : Spot) (s : Shape) : Type 1 where
+  pub At : Spot → Spot → Type 0
+  pub many : s .k ≡ G .k
+  pub right : (i : ℕ) → i < s .k → getD (s .sa) i 0 ≡ G .a i
+  pub carries : Carries (grid (stepsAt s)) (grid G) At
+  pub led : Led (grid (stepsAt s)) (grid G) At (enter (grid (stepsAt s)) (way (stepsAt s)) (endAt s)) (enter (grid G) (way G) q)
+
+pub walked : (G : Steps) (q : Spot) (s : Shape) → Shows G q s → Walked G q s
+walked G q s (slid d l a) = record {
+  At = Lower d;
+  many = l .many;
+  right = l .right;
+  carries = slid-carries d G (stepsAt s) l;
+  led = slid-enters d G (stepsAt s) l (endAt s) q a;
+}
+walked G q s (mirrored d l a) = record {
+  At = Across d;
+  many = l .many;
+  right = l .right;
+  carries = mirrored-carries d G (stepsAt s) l;
+  led = mirrored-enters d G (stepsAt s) l (endAt s) q a;
+}
+
 pub shape-count : (J : rules.Job) (s : Shape) → InRange J → Fits J s → W (s .k) (s .f) (s .sa) (s .sc) (s .ex) (s .ey) ≡ countOf J
-unfolding W
+unfolding W paths
 shape-count J s r f =
-    rw (sym (f .many), sym (f .fence))
-    (paths-alike (gridOf J .k) (gridOf J .f) (λ i. getD (s .sa) i 0) (gridOf J .a) (λ i. getD (s .sc) i 0) (gridOf J .c)
-    (λ i l. f .right i (rw (f .many) at l)) (λ i l. f .up i (rw (f .many) at l)) (spot (s .ex) (s .ey))
-    ∙ sym (end-count J r (spot (s .ex) (s .ey)) (f .end)))
+    let w = walked (gridOf J) (f .end) s (f .shows) in
+    count-carried (grid (stepsAt s)) (grid (gridOf J)) (w .At) (w .carries) (enter (grid (stepsAt s)) (way (stepsAt s)) (endAt s)) (enter (grid (gridOf J)) (way (gridOf J)) (f .end)) (w .led)
+    ∙ sym (end-count J r (f .end) (f .sits))

@@ -33,8 +33,9 @@ use Rattle.rules.proofs.Slopes.{Small, W-none, slope-shear}
 use Rattle.job.specs.declared.Job.{Job}
 use Rattle.job.specs.Stands.{Level, Directed, Stands}
 use Rattle.job.specs.Stands.Stands.{as-north-east, as-dyck, as-delannoy, as-schroder, as-motzkin, as-open, as-fenced}
-use Rattle.grid.specs.Form.{Form}
+use Rattle.grid.specs.Form.{Form, spot}
 use Rattle.grid.specs.Shapes.{Grids, Sound, Fits, Shaped, ShapedFor, cornerState, cornerShape, Ranged, Laying, Laid}
+use Rattle.grid.specs.Shapes.Shows.{slid}
 use Rattle.grid.specs.Shapes.Shaped.{worked, over, nothing}
 use Rattle.grid.specs.declared.shape.Shape.{Shape}
 
@@ -171,11 +172,16 @@ north-east-shaped n m ln lm =
     (λ l. corner-form 2 (s .sa) (s .sc) (n + m) m refl refl (omega arith) (omega arith) (eight (λ i. T (ok 2 i (getD (s .sa) i 0) (getD (s .sc) i 0))) tt tt tt tt tt tt tt tt) l (omega arith))
     (record {
       letters = refl;
-      many = refl;
-      fence = refl;
-      right = two (λ i. getD (s .sa) i 0 ≡ gridOf (north-east n m) .a i) refl refl;
-      up = two (λ i. getD (s .sc) i 0 ≡ gridOf (north-east n m) .c i) refl refl;
-      end = record { across = refl; up = refl };
+      end = spot (n + m) m;
+      sits = record { across = refl; up = refl };
+      shows = slid 0
+          (record {
+            many = refl;
+            right = two (λ i. getD (s .sa) i 0 ≡ gridOf (north-east n m) .a i) refl refl;
+            up = two (λ i. getD (s .sc) i 0 + 0 * gridOf (north-east n m) .a i ≡ gridOf (north-east n m) .c i) refl refl;
+            fence = refl;
+          })
+          (refl, omega arith);
     })
     ln lm
 
@@ -187,11 +193,16 @@ delannoy-shaped n m ln lm =
     (λ l. corner-form 3 (s .sa) (s .sc) (n + m) m refl refl (omega arith) (omega arith) (eight (λ i. T (ok 3 i (getD (s .sa) i 0) (getD (s .sc) i 0))) tt tt tt tt tt tt tt tt) l (omega arith))
     (record {
       letters = refl;
-      many = refl;
-      fence = refl;
-      right = three (λ i. getD (s .sa) i 0 ≡ gridOf (delannoy n m) .a i) refl refl refl;
-      up = three (λ i. getD (s .sc) i 0 ≡ gridOf (delannoy n m) .c i) refl refl refl;
-      end = record { across = refl; up = refl };
+      end = spot (n + m) m;
+      sits = record { across = refl; up = refl };
+      shows = slid 0
+          (record {
+            many = refl;
+            right = three (λ i. getD (s .sa) i 0 ≡ gridOf (delannoy n m) .a i) refl refl refl;
+            up = three (λ i. getD (s .sc) i 0 + 0 * gridOf (delannoy n m) .a i ≡ gridOf (delannoy n m) .c i) refl refl refl;
+            fence = refl;
+          })
+          (refl, omega arith);
     })
     ln lm
 
@@ -232,14 +243,19 @@ module _ (j : Job) (fenced : Bool) (m : ℤ) (pairs : List Pair) (d : Directed j
     fits : 128 ≤ j .m + 3 * j .n → Fits J s
     fits l = record {
       letters = w .corner-is;
-      many = d .many ∙ sym (w .k-is);
-      fence = sym e ∙ sym (w .f-is);
-      right = λ i h. w .steps .right i (omega (arith, w .k-is)) ∙ d .a-is i (omega (arith, w .k-is));
-      up = λ i h. w .steps .up i (omega (arith, w .k-is)) ∙ lifted i (omega (arith, w .k-is));
-      end = record {
+      end = spot (s .ex) (s .ey);
+      sits = record {
         across = sym (w .ex-is);
         up = is-shift m (j .m) 128 (s .ey) (3 * s .ex) (d .m-is) (omega (arith, w .ex-is, w .ey-is));
       };
+      shows = slid 0
+          (record {
+            many = w .k-is ∙ sym (d .many);
+            right = λ i h. w .steps .right i (omega (arith, w .k-is)) ∙ d .a-is i (omega (arith, w .k-is));
+            up = λ i h. omega (arith, w .steps .up i (omega (arith, w .k-is)), lifted i (omega (arith, w .k-is)));
+            fence = omega (arith, w .f-is);
+          })
+          (refl, omega arith);
     }
 
     laid-low : (i : ℕ) → i < 8 → Dec (i < j .k) → getD (s .sc) i 0 ≤ 12

@@ -14,7 +14,7 @@ use native.Mathlib.Decide.{decLt}
 use native.Mathlib.Omega.{arith}
 use lib.Dec.{T, ltb, eqb}
 use lib.IntN.{pos}
-use lib.ListN.{length, getD}
+use lib.ListN.{length}
 use borrow.Author.Tests.{lt-ltb, le-ltb, ne-eqb}
 use Rattle.howmany.specs.Choose.{pick}
 use Rattle.howmany.specs.Sum.{sum}
@@ -23,7 +23,7 @@ use Rattle.backward.specs.Walk.{enter}
 use Rattle.backward.specs.Grid.{Spot, Steps, grid, way, paths}
 use Rattle.backward.proofs.Backward.{letter, rest, unrank-built}
 use Rattle.backward.proofs.Grids.{grid-lawful}
-use Rattle.backward.proofs.Alike.{grid-valid-alike, grid-rank-alike, grid-unrank-alike, grid-count-alike}
+use Rattle.backward.proofs.Carried.{valid-carried, count-carried, rank-carried, unrank-carried}
 use Rattle.rules.specs.Points.{origin}
 use Rattle.rules.specs.Jobs as rules
 use Rattle.rules.specs.Jobs.{Pair, one, numbered, stepsOf}
@@ -38,12 +38,11 @@ use Rattle.rules.proofs.Sheared.{walks-word, number-word, edge-word}
 use Rattle.rules.proofs.Corners.{north-east-shear, delannoy-shear}
 use Rattle.rules.proofs.Slopes.{digit-at, digit-place, slope-shear}
 use Rattle.rules.proofs.Demand3.{InRange}
-use Rattle.grid.specs.Form.{spot}
 use Rattle.letters.specs.Letters.{placeOf, glyphOf}
 use Rattle.grid.specs.Edges as edges
-use Rattle.grid.specs.Shapes.{Grids, isCorner, Sits, Fits}
+use Rattle.grid.specs.Shapes.{Grids, isCorner, Sits, stepsAt, endAt, Fits}
 use Rattle.grid.specs.declared.shape.Shape.{Shape}
-use Rattle.grid.proofs.Grounds.{end-count}
+use Rattle.grid.proofs.Grounds.{end-count, Walked, walked}
 
 data Agree (k x y : ℕ) : Type 0 where
   same : x ≡ y → Agree k x y
@@ -185,71 +184,66 @@ edge-by (directed f n m p) r q s x l = edge-word (directed f n m p) (gridOf (dir
 
 -- ---- a job's edges by the grid of its shape
 
-module _ (J : rules.Job) (s : Shape) (g : Grids J) (r : InRange J) (w : Fits J s) where
-  abbrev K : ℕ
-  K = gridOf J .k
+module _ (J : rules.Job) (s : Shape) (g : Grids J) (r : InRange J) (f : Fits J s) where
+  abbrev G : Steps
+  G = gridOf J
 
-  -- the shape's steps, with the job's own number of them and fence
-  abbrev own : Steps
-  own = record { k = gridOf J .k; a = λ i. getD (s .sa) i 0; c = λ i. getD (s .sc) i 0; f = gridOf J .f }
+  abbrev H : Steps
+  H = stepsAt s
 
-  abbrev q : Spot
-  q = spot (s .ex) (s .ey)
+  -- the end in both grids
+  abbrev ends : Option Spot
+  ends = enter (grid G) (way G) (f .end)
 
-  right : (i : ℕ) → i < gridOf J .k → getD (s .sa) i 0 ≡ gridOf J .a i
-  right i l = w .right i (rw (w .many) at l)
+  abbrev ends-there : Option Spot
+  ends-there = enter (grid H) (way H) (endAt s)
 
-  up : (i : ℕ) → i < gridOf J .k → getD (s .sc) i 0 ≡ gridOf J .c i
-  up i l = w .up i (rw (w .many) at l)
-
-  own-lawful : Lawful (grid own)
-  own-lawful = grid-lawful own (λ i l. rw (right i l) (onward-of J g r i l))
+  w : Walked (gridOf J) (f .end) s
+  w = walked (gridOf J) (f .end) s (f .shows)
 
   job-lawful : Lawful (grid (gridOf J))
   job-lawful = grid-lawful (gridOf J) (onward-of J g r)
 
-  abbrev ends : Option Spot
-  ends = enter (grid (gridOf J)) (way (gridOf J)) q
+  shape-lawful : Lawful (grid (stepsAt s))
+  shape-lawful = grid-lawful (stepsAt s) (λ i l. rw (w .right i l) (onward-of J g r i (omega (arith, w .many))))
 
   -- the code's word of an edge and the job's
-  word-valid : (e : List ℕ) → valid (grid (gridOf J)) (reverse (map (placeOf (isCorner J)) e)) ends ≡ valid (grid (gridOf J)) (reverse (map (λ b. place b (stepsOf J)) e)) ends
+  word-valid : (e : List ℕ) → valid (grid G) (reverse (map (placeOf (isCorner J)) e)) ends ≡ valid (grid G) (reverse (map (λ b. place b (stepsOf J)) e)) ends
   word-valid e =
-      ap (λ (u : List ℕ). valid (grid (gridOf J)) u ends) (map-reverse (placeOf (isCorner J)) e)
-      ∙ valid-map (grid (gridOf J)) (placeOf (isCorner J)) (λ b. place b (stepsOf J)) (places J g r) (reverse e) ends
-      ∙ sym (ap (λ (u : List ℕ). valid (grid (gridOf J)) u ends) (map-reverse (λ b. place b (stepsOf J)) e))
+      ap (λ (u : List ℕ). valid (grid G) u ends) (map-reverse (placeOf (isCorner J)) e)
+      ∙ valid-map (grid G) (placeOf (isCorner J)) (λ b. place b (stepsOf J)) (places J g r) (reverse e) ends
+      ∙ sym (ap (λ (u : List ℕ). valid (grid G) u ends) (map-reverse (λ b. place b (stepsOf J)) e))
+
+  same-valid : (u : List ℕ) → valid (grid H) u ends-there ≡ valid (grid G) u ends
+  same-valid u = valid-carried (grid H) (grid G) (w .At) (w .carries) u ends-there ends (w .led)
 
   pub shape-edge : (e : List ℕ) → edges.isEdge (s .corner) (s .k) (s .f) (s .sa) (s .sc) (s .ex) (s .ey) e ≡ walks J origin e
   unfolding edges.isEdge
-  shape-edge e =
-      rw (w .letters, sym (w .many), sym (w .fence))
-      (grid-valid-alike (gridOf J .k) (gridOf J .f) (λ i. getD (s .sa) i 0) (gridOf J .a) (λ i. getD (s .sc) i 0) (gridOf J .c) right up (reverse (map (placeOf (isCorner J)) e)) ends
-      ∙ word-valid e ∙ sym (walks-by J r q (w .end) e))
+  shape-edge e = rw (f .letters) (same-valid (reverse (map (placeOf (isCorner J)) e)) ∙ word-valid e ∙ sym (walks-by J r (f .end) (f .sits) e))
 
   pub shape-number : (e : List ℕ) → T (walks J origin e) → edges.numberOf (s .corner) (s .k) (s .f) (s .sa) (s .sc) (s .ex) (s .ey) e ≡ numbers.numberOf J e
   unfolding edges.numberOf
   shape-number e t =
-      let v : T (valid (grid (gridOf J)) (reverse (map (placeOf (isCorner J)) e)) ends) = subst T (walks-by J r q (w .end) e ∙ sym (word-valid e)) t in
-      let u : T (valid (grid own) (reverse (map (placeOf (isCorner J)) e)) ends) =
-      subst T (sym (grid-valid-alike (gridOf J .k) (gridOf J .f) (λ i. getD (s .sa) i 0) (gridOf J .a) (λ i. getD (s .sc) i 0) (gridOf J .c) right up (reverse (map (placeOf (isCorner J)) e)) ends)) v in
-      rw (w .letters, sym (w .many), sym (w .fence))
-      (grid-rank-alike (gridOf J .k) (gridOf J .f) (λ i. getD (s .sa) i 0) (gridOf J .a) (λ i. getD (s .sc) i 0) (gridOf J .c) right up own-lawful job-lawful (reverse (map (placeOf (isCorner J)) e)) ends u
-      ∙ ap (λ (x : List ℕ). rank (grid (gridOf J)) x ends) (map-reverse (placeOf (isCorner J)) e)
-      ∙ rank-map (grid (gridOf J)) (placeOf (isCorner J)) (λ b. place b (stepsOf J)) (places J g r) job-lawful (reverse e) ends
-      (subst (λ (x : List ℕ). T (valid (grid (gridOf J)) x ends)) (map-reverse (placeOf (isCorner J)) e) v)
-      ∙ sym (ap (λ (x : List ℕ). rank (grid (gridOf J)) x ends) (map-reverse (λ b. place b (stepsOf J)) e))
-      ∙ sym (number-by J r q (w .end) e t))
+      let v : T (valid (grid G) (reverse (map (placeOf (isCorner J)) e)) ends) = subst T (walks-by J r (f .end) (f .sits) e ∙ sym (word-valid e)) t in
+      rw (f .letters)
+      (rank-carried (grid H) (grid G) (w .At) (w .carries) shape-lawful job-lawful (reverse (map (placeOf (isCorner J)) e)) ends-there ends (w .led)
+      (subst T (sym (same-valid (reverse (map (placeOf (isCorner J)) e)))) v)
+      ∙ ap (λ (x : List ℕ). rank (grid G) x ends) (map-reverse (placeOf (isCorner J)) e)
+      ∙ rank-map (grid G) (placeOf (isCorner J)) (λ b. place b (stepsOf J)) (places J g r) job-lawful (reverse e) ends
+      (subst (λ (x : List ℕ). T (valid (grid G) x ends)) (map-reverse (placeOf (isCorner J)) e) v)
+      ∙ sym (ap (λ (x : List ℕ). rank (grid G) x ends) (map-reverse (λ b. place b (stepsOf J)) e))
+      ∙ sym (number-by J r (f .end) (f .sits) e t))
 
   pub shape-spells : (n : ℕ) → n < countOf J → edges.edgeOf (s .corner) (s .k) (s .f) (s .sa) (s .sc) (s .ex) (s .ey) n ≡ numbers.edgeOf J n
   unfolding edges.edgeOf paths
   shape-spells n l =
-      let h : n < paths (gridOf J) q = rw (end-count J r q (w .end)) at l in
-      let c : n < count (grid own) ends =
-      rw (grid-count-alike (gridOf J .k) (gridOf J .f) (λ i. getD (s .sa) i 0) (gridOf J .a) (λ i. getD (s .sc) i 0) (gridOf J .c) right up ends) h in
-      let b = unrank-built (grid (gridOf J)) job-lawful ends n h in
-      rw (w .letters, sym (w .many), sym (w .fence))
+      let h : n < paths G (f .end) = rw (end-count J r (f .end) (f .sits)) at l in
+      let c : n < count (grid H) ends-there = rw (count-carried (grid H) (grid G) (w .At) (w .carries) ends-there ends (w .led)) h in
+      let b = unrank-built (grid G) job-lawful ends n h in
+      rw (f .letters)
       (ap (λ (x : List ℕ). map (glyphOf (isCorner J)) (reverse x))
-      (grid-unrank-alike (gridOf J .k) (gridOf J .f) (λ i. getD (s .sa) i 0) (gridOf J .a) (λ i. getD (s .sc) i 0) (gridOf J .c) right up own-lawful job-lawful ends n c)
-      ∙ sym (map-reverse (glyphOf (isCorner J)) (unrank (grid (gridOf J)) ends n))
-      ∙ ap reverse (map-letters (grid (gridOf J)) job-lawful (glyphOf (isCorner J)) (λ i. at (stepsOf J) i .letter) (glyphs J g r) (unrank (grid (gridOf J)) ends n) ends (b .is))
-      ∙ map-reverse (λ i. at (stepsOf J) i .letter) (unrank (grid (gridOf J)) ends n)
-      ∙ sym (edge-by J r q (w .end) n h))
+      (unrank-carried (grid H) (grid G) (w .At) (w .carries) shape-lawful job-lawful ends-there ends (w .led) n c)
+      ∙ sym (map-reverse (glyphOf (isCorner J)) (unrank (grid G) ends n))
+      ∙ ap reverse (map-letters (grid G) job-lawful (glyphOf (isCorner J)) (λ i. at (stepsOf J) i .letter) (glyphs J g r) (unrank (grid G) ends n) ends (b .is))
+      ∙ map-reverse (λ i. at (stepsOf J) i .letter) (unrank (grid G) ends n)
+      ∙ sym (edge-by J r (f .end) (f .sits) n h))

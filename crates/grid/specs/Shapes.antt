@@ -4,7 +4,9 @@
 --   Sound j             the held job j stands for such a job
 --   isCorner J          its edges are written N E D
 --   Sits J q            the spot q stands for the job's end
---   Fits J s            the shape s has the steps, the end and the letters of the job
+--   stepsAt s, endAt s  the steps and the end of the shape s
+--   Shows G q s         the shape s shows the grid G with the end q: slid down, or mirrored
+--   Fits J s            the shape s has the letters of the job, and shows its grid and its end
 --   Shaped J s          s says all of the job: its steps and end, that its count needs more than 64 bits, or that nothing leads to its end
 --   ShapedFor j s       the same, of the job that j stands for
 --   cornerState n m     1 where n and m are above 33
@@ -17,7 +19,8 @@ use Prim.Native.Nat.{ℕ, _+_, _*_, _-_, _^_, _≤_, _<_}
 use lib.Dec.{ltb}
 use lib.ListN.{length, getD}
 use Rattle.howmany.specs.Choose.{pick, bit}
-use Rattle.backward.specs.Grid.{Spot}
+use Rattle.backward.specs.Grid.{Spot, Steps}
+use Rattle.backward.specs.Shears.{Slid, Lower, Mirrored, Across}
 use Rattle.rules.specs.Jobs as rules
 use Rattle.rules.specs.Jobs.{endOf}
 use Rattle.rules.specs.Jobs.Job.{north-east, dyck, delannoy, schroder, motzkin, directed}
@@ -26,7 +29,7 @@ use Rattle.rules.specs.Counts.{countOf}
 use Rattle.rules.specs.Shear.{gridOf, Corner, Slope}
 use Rattle.job.specs.declared.Job.{Job}
 use Rattle.job.specs.Stands.{Stands}
-use Rattle.grid.specs.Form.{Form, spot}
+use Rattle.grid.specs.Form.{Form, stepsIn, spot}
 use Rattle.grid.specs.declared.shape.Shape.{Shape}
 
 abbrev pub Grids : rules.Job → Type 0
@@ -58,13 +61,21 @@ Sits (schroder n) q = ⊥
 Sits (motzkin n) q = ⊥
 Sits (directed fenced n m pairs) q = Slope (endOf (directed fenced n m pairs)) q
 
+abbrev pub stepsAt : Shape → Steps
+stepsAt s = stepsIn (s .k) (s .f) (s .sa) (s .sc)
+
+abbrev pub endAt : Shape → Spot
+endAt s = spot (s .ex) (s .ey)
+
+pub data Shows (G : Steps) (q : Spot) (s : Shape) : Type 0 where
+  slid : (d : ℕ) → Slid d G (stepsAt s) → Lower d (endAt s) q → Shows G q s
+  mirrored : (d : ℕ) → Mirrored d G (stepsAt s) → Across d (endAt s) q → Shows G q s
+
 pub record Fits (J : rules.Job) (s : Shape) : Type 0 where
   pub letters : s .corner ≡ isCorner J
-  pub many : gridOf J .k ≡ s .k
-  pub fence : gridOf J .f ≡ s .f
-  pub right : (i : ℕ) → i < s .k → getD (s .sa) i 0 ≡ gridOf J .a i
-  pub up : (i : ℕ) → i < s .k → getD (s .sc) i 0 ≡ gridOf J .c i
-  pub end : Sits J (spot (s .ex) (s .ey))
+  pub end : Spot
+  pub sits : Sits J end
+  pub shows : Shows (gridOf J) end s
 
 pub data Shaped (J : rules.Job) (s : Shape) : Type 0 where
   worked : s .state ≡ 0 → Form (s .k) (s .f) (s .sa) (s .sc) (s .top) (s .ex) (s .ey) → Fits J s → Shaped J s
