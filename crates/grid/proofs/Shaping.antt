@@ -2,7 +2,7 @@
 --
 --   laid-start, laid-more        the steps of families 6 and 7, one more at a time
 --   L-up, L-right, L-over        L grows, so it is above 64 bits where n and m are above 33; D is at least L
---   corner-shaped                the shape of families 1 and 3
+--   north-east-shaped, delannoy-shaped    the shapes of families 1 and 3
 --   directed-shaped              the shape of families 6 and 7
 use mathlib.Core.Path.{_≡_, refl, sym, _∙_}
 use mathlib.Core.Logic.{_⊎_, inl, inr}
@@ -20,6 +20,7 @@ use borrow.Author.Tests.{lt-ltb, le-ltb}
 use Rattle.howmany.specs.Choose.{pick}
 use Rattle.howmany.proofs.Choices.{and-left, and-right}
 use Rattle.howmany.proofs.Cases.{two, three, eight}
+use Rattle.backward.specs.Grid.{Steps}
 use Rattle.rules.specs.Points.{leℤ}
 use Rattle.rules.specs.Jobs as rules
 use Rattle.rules.specs.Jobs.{Pair}
@@ -34,8 +35,8 @@ use Rattle.job.specs.declared.Job.{Job}
 use Rattle.job.specs.Stands.{Level, Directed, Stands}
 use Rattle.job.specs.Stands.Stands.{as-north-east, as-dyck, as-delannoy, as-schroder, as-motzkin, as-open, as-fenced}
 use Rattle.grid.specs.Form.{Form, spot}
-use Rattle.grid.specs.Shapes.{Grids, Sound, Fits, Shaped, ShapedFor, cornerState, cornerShape, Ranged, Laying, Laid}
-use Rattle.grid.specs.Shapes.Shows.{slid}
+use Rattle.grid.specs.Shapes.{Grids, Sound, FormOf, Shows, Fits, Shaped, ShapedFor, cornerState, cornerWith, cornerShape, Ranged, Laying, Laid}
+use Rattle.grid.specs.Shapes.Shows.{slid, mirrored}
 use Rattle.grid.specs.Shapes.Shaped.{worked, over, nothing}
 use Rattle.grid.specs.declared.shape.Shape.{Shape}
 
@@ -156,7 +157,7 @@ corner-form k sa sc ex ey la lc some most t lx ly = record {
 
 -- the state of a corner's shape says whether n and m are both above 33
 corner-cases : (J : rules.Job) (n m : ℕ) (s : Shape) → s .state ≡ cornerState n m → (33 < n → 33 < m → 2 ^ 64 ≤ countOf J)
-    → (n + m ≤ 97 → Form (s .k) (s .f) (s .sa) (s .sc) (s .top) (s .ex) (s .ey)) → Fits J s → n ≤ 64 → m ≤ 64 → Shaped J s
+    → (n + m ≤ 97 → FormOf s) → Fits J s → n ≤ 64 → m ≤ 64 → Shaped J s
 corner-cases J n m s e big form fits ln lm = go (decLt 33 n) (decLt 33 m)
   where
     go : Dec (33 < n) → Dec (33 < m) → Shaped J s
@@ -166,45 +167,85 @@ corner-cases J n m s e big form fits ln lm = go (decLt 33 n) (decLt 33 m)
 
 pub north-east-shaped : (n m : ℕ) → n ≤ 64 → m ≤ 64 → Shaped (north-east n m) (cornerShape n m false)
 unfolding ok countOf
-north-east-shaped n m ln lm =
-    let s : Shape = cornerShape n m false in
-    corner-cases (north-east n m) n m s refl (λ l h. L-over n m l h)
-    (λ l. corner-form 2 (s .sa) (s .sc) (n + m) m refl refl (omega arith) (omega arith) (eight (λ i. T (ok 2 i (getD (s .sa) i 0) (getD (s .sc) i 0))) tt tt tt tt tt tt tt tt) l (omega arith))
-    (record {
-      letters = refl;
-      end = spot (n + m) m;
-      sits = record { across = refl; up = refl };
-      shows = slid 0
-          (record {
-            many = refl;
-            right = two (λ i. getD (s .sa) i 0 ≡ gridOf (north-east n m) .a i) refl refl;
-            up = two (λ i. getD (s .sc) i 0 + 0 * gridOf (north-east n m) .a i ≡ gridOf (north-east n m) .c i) refl refl;
-            fence = refl;
-          })
-          (refl, omega arith);
-    })
-    ln lm
+north-east-shaped n m ln lm = go (decLt n m)
+  where
+    G : Steps
+    G = gridOf (north-east n m)
+
+    with : (s : Shape) → s .state ≡ cornerState n m → s .corner ≡ true → (n + m ≤ 97 → FormOf s) → Shows G (spot (n + m) m) s → Shaped (north-east n m) s
+    with s e c form w =
+        corner-cases (north-east n m) n m s e (λ l h. L-over n m l h) form
+        (record { letters = c; end = spot (n + m) m; sits = record { across = refl; up = refl }; shows = w }) ln lm
+
+    go : Dec (n < m) → Shaped (north-east n m) (cornerShape n m false)
+    go (yes l) =
+        let s : Shape = cornerWith n m n 0 1 false in
+        rw (lt-ltb n m l)
+        (with s refl refl
+        (λ h. corner-form 2 (s .sa) (s .sc) (n + m) n refl refl (omega arith) (omega arith) (eight (λ i. T (ok 2 i (getD (s .sa) i 0) (getD (s .sc) i 0))) tt tt tt tt tt tt tt tt) h ln)
+        (mirrored 1
+        (record {
+          many = refl;
+          right = two (λ i. getD (s .sa) i 0 ≡ G .a i) refl refl;
+          up = two (λ i. getD (s .sc) i 0 + G .c i ≡ 1 * G .a i) refl refl;
+          free = refl;
+          free-too = refl;
+        })
+        (refl, omega arith)))
+    go (no l) =
+        let s : Shape = cornerWith n m m 1 0 false in
+        rw (le-ltb n m (omega arith))
+        (with s refl refl
+        (λ h. corner-form 2 (s .sa) (s .sc) (n + m) m refl refl (omega arith) (omega arith) (eight (λ i. T (ok 2 i (getD (s .sa) i 0) (getD (s .sc) i 0))) tt tt tt tt tt tt tt tt) h lm)
+        (slid 0
+        (record {
+          many = refl;
+          right = two (λ i. getD (s .sa) i 0 ≡ G .a i) refl refl;
+          up = two (λ i. getD (s .sc) i 0 + 0 * G .a i ≡ G .c i) refl refl;
+          fence = refl;
+        })
+        (refl, omega arith)))
 
 pub delannoy-shaped : (n m : ℕ) → n ≤ 64 → m ≤ 64 → Shaped (delannoy n m) (cornerShape n m true)
 unfolding ok countOf
-delannoy-shaped n m ln lm =
-    let s : Shape = cornerShape n m true in
-    corner-cases (delannoy n m) n m s refl (λ l h. le-trans (L-over n m l h) (D-least n m))
-    (λ l. corner-form 3 (s .sa) (s .sc) (n + m) m refl refl (omega arith) (omega arith) (eight (λ i. T (ok 3 i (getD (s .sa) i 0) (getD (s .sc) i 0))) tt tt tt tt tt tt tt tt) l (omega arith))
-    (record {
-      letters = refl;
-      end = spot (n + m) m;
-      sits = record { across = refl; up = refl };
-      shows = slid 0
-          (record {
-            many = refl;
-            right = three (λ i. getD (s .sa) i 0 ≡ gridOf (delannoy n m) .a i) refl refl refl;
-            up = three (λ i. getD (s .sc) i 0 + 0 * gridOf (delannoy n m) .a i ≡ gridOf (delannoy n m) .c i) refl refl refl;
-            fence = refl;
-          })
-          (refl, omega arith);
-    })
-    ln lm
+delannoy-shaped n m ln lm = go (decLt n m)
+  where
+    G : Steps
+    G = gridOf (delannoy n m)
+
+    with : (s : Shape) → s .state ≡ cornerState n m → s .corner ≡ true → (n + m ≤ 97 → FormOf s) → Shows G (spot (n + m) m) s → Shaped (delannoy n m) s
+    with s e c form w =
+        corner-cases (delannoy n m) n m s e (λ l h. le-trans (L-over n m l h) (D-least n m)) form
+        (record { letters = c; end = spot (n + m) m; sits = record { across = refl; up = refl }; shows = w }) ln lm
+
+    go : Dec (n < m) → Shaped (delannoy n m) (cornerShape n m true)
+    go (yes l) =
+        let s : Shape = cornerWith n m n 0 1 true in
+        rw (lt-ltb n m l)
+        (with s refl refl
+        (λ h. corner-form 3 (s .sa) (s .sc) (n + m) n refl refl (omega arith) (omega arith) (eight (λ i. T (ok 3 i (getD (s .sa) i 0) (getD (s .sc) i 0))) tt tt tt tt tt tt tt tt) h ln)
+        (mirrored 1
+        (record {
+          many = refl;
+          right = three (λ i. getD (s .sa) i 0 ≡ G .a i) refl refl refl;
+          up = three (λ i. getD (s .sc) i 0 + G .c i ≡ 1 * G .a i) refl refl refl;
+          free = refl;
+          free-too = refl;
+        })
+        (refl, omega arith)))
+    go (no l) =
+        let s : Shape = cornerWith n m m 1 0 true in
+        rw (le-ltb n m (omega arith))
+        (with s refl refl
+        (λ h. corner-form 3 (s .sa) (s .sc) (n + m) m refl refl (omega arith) (omega arith) (eight (λ i. T (ok 3 i (getD (s .sa) i 0) (getD (s .sc) i 0))) tt tt tt tt tt tt tt tt) h lm)
+        (slid 0
+        (record {
+          many = refl;
+          right = three (λ i. getD (s .sa) i 0 ≡ G .a i) refl refl refl;
+          up = three (λ i. getD (s .sc) i 0 + 0 * G .a i ≡ G .c i) refl refl refl;
+          fence = refl;
+        })
+        (refl, omega arith)))
 
 -- ---- families 6 and 7
 
@@ -266,7 +307,7 @@ module _ (j : Job) (fenced : Bool) (m : ℤ) (pairs : List Pair) (d : Directed j
     f-small true q = omega arith
     f-small false q = omega arith
 
-    form : Form (s .k) (s .f) (s .sa) (s .sc) (s .top) (s .ex) (s .ey)
+    form : FormOf s
     form = record {
       eight = w .steps .eight;
       eight-too = w .steps .eight-too;

@@ -5,12 +5,14 @@
 --   isCorner J          its edges are written N E D
 --   Sits J q            the spot q stands for the job's end
 --   stepsAt s, endAt s  the steps and the end of the shape s
+--   FormOf s            the shape s is one that the table can be filled for
 --   Shows G q s         the shape s shows the grid G with the end q: slid down, or mirrored
 --   Fits J s            the shape s has the letters of the job, and shows its grid and its end
 --   Shaped J s          s says all of the job: its steps and end, that its count needs more than 64 bits, or that nothing leads to its end
 --   ShapedFor j s       the same, of the job that j stands for
 --   cornerState n m     1 where n and m are above 33
---   cornerShape n m d   the shape of families 1 (d false) and 3 (d true)
+--   cornerWith          a shape of families 1 (d false) and 3 (d true): its end at height ey, N going up by north and E by east
+--   cornerShape n m d   their shape, mirrored where n is below m
 --   Ranged j            the ranges of families 6 and 7; Laid j f s: their shape; Laying: their steps so far
 use mathlib.Core.Path.{_≡_}
 use mathlib.Core.Bool.{Bool, true, false, _&&_}
@@ -71,6 +73,9 @@ pub data Shows (G : Steps) (q : Spot) (s : Shape) : Type 0 where
   slid : (d : ℕ) → Slid d G (stepsAt s) → Lower d (endAt s) q → Shows G q s
   mirrored : (d : ℕ) → Mirrored d G (stepsAt s) → Across d (endAt s) q → Shows G q s
 
+abbrev pub FormOf : Shape → Type 0
+FormOf s = Form (s .k) (s .f) (s .sa) (s .sc) (s .top) (s .ex) (s .ey)
+
 pub record Fits (J : rules.Job) (s : Shape) : Type 0 where
   pub letters : s .corner ≡ isCorner J
   pub end : Spot
@@ -78,7 +83,7 @@ pub record Fits (J : rules.Job) (s : Shape) : Type 0 where
   pub shows : Shows (gridOf J) end s
 
 pub data Shaped (J : rules.Job) (s : Shape) : Type 0 where
-  worked : s .state ≡ 0 → Form (s .k) (s .f) (s .sa) (s .sc) (s .top) (s .ex) (s .ey) → Fits J s → Shaped J s
+  worked : s .state ≡ 0 → FormOf s → Fits J s → Shaped J s
   over : s .state ≡ 1 → 2 ^ 64 ≤ countOf J → Shaped J s
   nothing : s .state ≡ 2 → countOf J ≡ 0 → ((e : List ℕ) → Valid J e → ⊥) → Shaped J s
 
@@ -89,29 +94,32 @@ ShapedFor j s = (J : rules.Job) → Stands j J → Shaped J s
 abbrev pub cornerState : ℕ → ℕ → ℕ
 cornerState n m = bit (ltb 33 n && ltb 33 m)
 
-abbrev pub cornerShape : ℕ → ℕ → Bool → Shape
-cornerShape n m true = record {
+abbrev pub cornerWith : ℕ → ℕ → ℕ → ℕ → ℕ → Bool → Shape
+cornerWith n m ey north east true = record {
   state = cornerState n m;
   corner = true;
   k = 3;
   f = 0;
   top = 1;
   ex = n + m;
-  ey = m;
+  ey = ey;
   sa = 1 ∷ 1 ∷ 2 ∷ 100 ∷ 100 ∷ 100 ∷ 100 ∷ 100 ∷ [];
-  sc = 1 ∷ 0 ∷ 1 ∷ 0 ∷ 0 ∷ 0 ∷ 0 ∷ 0 ∷ [];
+  sc = north ∷ east ∷ 1 ∷ 0 ∷ 0 ∷ 0 ∷ 0 ∷ 0 ∷ [];
 }
-cornerShape n m false = record {
+cornerWith n m ey north east false = record {
   state = cornerState n m;
   corner = true;
   k = 2;
   f = 0;
   top = 1;
   ex = n + m;
-  ey = m;
+  ey = ey;
   sa = 1 ∷ 1 ∷ 100 ∷ 100 ∷ 100 ∷ 100 ∷ 100 ∷ 100 ∷ [];
-  sc = 1 ∷ 0 ∷ 0 ∷ 0 ∷ 0 ∷ 0 ∷ 0 ∷ 0 ∷ [];
+  sc = north ∷ east ∷ 0 ∷ 0 ∷ 0 ∷ 0 ∷ 0 ∷ 0 ∷ [];
 }
+
+abbrev pub cornerShape : ℕ → ℕ → Bool → Shape
+cornerShape n m d = pick (ltb n m) (cornerWith n m n 0 1 d) (cornerWith n m m 1 0 d)
 
 pub record Ranged (j : Job) : Type 0 where
   pub n-most : j .n ≤ 32

@@ -2,7 +2,7 @@
 ghost use mathlib.Core.Path.{_≡_};
 ghost use mathlib.Core.Bool.{true, false};
 ghost use Prim.Native.Nat.{_≤_, _<_, _+_, _*_};
-ghost use Rattle.grid.specs.Shapes.{cornerState, cornerShape, Laid, Sound, Ranged, ShapedFor};
+ghost use Rattle.grid.specs.Shapes.{cornerState, cornerWith, cornerShape, Laid, Sound, Ranged, ShapedFor};
 use job::Job;
 
 // What the table is filled for. State 0: steps and an end; 1: the count needs more than 64 bits; 2: nothing leads to the end.
@@ -36,12 +36,13 @@ fn corner_state(n: usize, m: usize) -> u8
     1
 }
 
-// Families 1 and 3. Where both n and m are above 33 the count needs more than 64 bits, and the table would be too large.
-fn corner_shape(n: usize, m: usize, diagonal: bool) -> Shape
+// Families 1 and 3: a shape with its end at height ey, where N goes up by `north` and E by `east`.
+fn corner_with(n: usize, m: usize, ey: usize, north: usize, east: usize, diagonal: bool) -> Shape
     requires { ⌜ (n ≤ 64) × (m ≤ 64) ⌝ }
-    ensures { λ r. ⌜ r ≡ cornerShape n m diagonal ⌝ }
+    ensures { λ r. ⌜ r ≡ cornerWith n m ey north east diagonal ⌝ }
 {
     let state = corner_state(n, m);
+    let ex = n + m;
     if diagonal {
         return Shape {
             state,
@@ -49,10 +50,10 @@ fn corner_shape(n: usize, m: usize, diagonal: bool) -> Shape
             k: 3,
             f: 0,
             top: 1,
-            ex: n + m,
-            ey: m,
+            ex,
+            ey,
             sa: [1, 1, 2, 100, 100, 100, 100, 100],
-            sc: [1, 0, 1, 0, 0, 0, 0, 0],
+            sc: [north, east, 1, 0, 0, 0, 0, 0],
         };
     }
     Shape {
@@ -61,11 +62,22 @@ fn corner_shape(n: usize, m: usize, diagonal: bool) -> Shape
         k: 2,
         f: 0,
         top: 1,
-        ex: n + m,
-        ey: m,
+        ex,
+        ey,
         sa: [1, 1, 100, 100, 100, 100, 100, 100],
-        sc: [1, 0, 0, 0, 0, 0, 0, 0],
+        sc: [north, east, 0, 0, 0, 0, 0, 0],
     }
+}
+
+// The end is at the lesser of n and m. Where both are above 33 the count needs more than 64 bits, and the table would be too large.
+fn corner_shape(n: usize, m: usize, diagonal: bool) -> Shape
+    requires { ⌜ (n ≤ 64) × (m ≤ 64) ⌝ }
+    ensures { λ r. ⌜ r ≡ cornerShape n m diagonal ⌝ }
+{
+    if n < m {
+        return corner_with(n, m, n, 0, 1, diagonal);
+    }
+    corner_with(n, m, m, 1, 0, diagonal)
 }
 
 // Families 6 and 7; f is the fence's slope. An end below -3n can't be reached.

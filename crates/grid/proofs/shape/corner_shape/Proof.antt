@@ -1,23 +1,20 @@
--- `grid::shape::corner_shape` meets its contract: the steps as they stand there, with or without `D`. Assumes nothing.
-use mathlib.Core.Path.{refl}
+-- `grid::shape::corner_shape` meets its contract: by which of n and m is the lesser. Assumes nothing.
 use borrow.Author.Needs.{needs}
+use borrow.Author.Tests.{lt-ltb, le-ltb}
 use Rattle.grid.proofs.shape.corner_shape.Statement.{statement}
 use Rattle.grid.proofs.shape.corner_shape.Tie as tie
 
-corner-state-requires : tie.Need-corner-state-requires
-corner-state-requires c κs = search needs
-
-add-t6 : tie.Need-add-t6
-add-t6 c = search needs
+corner-with-requires : tie.Need-corner-with-requires
+corner-with-requires c κs = search needs
 
 returns : tie.Need-returns
-returns c = rw (c .if1 .taken, c .before .corner-state .ensures) refl
+returns c = rw (lt-ltb _ _ (c .before .if1 .taken)) (c .corner-with .ensures)
 
-add-t9 : tie.Need-add-t9
-add-t9 c = search needs
+corner-with-requires-2 : tie.Need-corner-with-requires-2
+corner-with-requires-2 c κs = search needs
 
 returns-2 : tie.Need-returns-2
-returns-2 c = rw (c .if1 .left, c .before .corner-state .ensures) refl
+returns-2 c = rw (le-ltb _ _ (c .before .if1 .left)) (c .corner-with2 .ensures)
 
 pub corner-shape-spec : {M : Type 1} → statement M
-corner-shape-spec = tie.close (tie.spec corner-state-requires add-t6 returns add-t9 returns-2)
+corner-shape-spec = tie.close (tie.spec corner-with-requires returns corner-with-requires-2 returns-2)
