@@ -8,6 +8,7 @@ pub mod Prepare
 pub mod Reading
 pub mod Numbers
 pub mod Building
+pub mod Lowering
 pub mod Shaping
 pub mod Grounds
 pub mod Counted

@@ -1,13 +1,15 @@
 -- Laws of shapes: how steps are laid one by one, and what each shape says of its job. Assumes nothing.
 --
---   laid-start, laid-more        the steps of families 6 and 7, one more at a time
---   L-up, L-right, L-over        L grows, so it is above 64 bits where n and m are above 33; D is at least L
---   north-east-shaped, delannoy-shaped    the shapes of families 1 and 3
---   directed-shaped              the shape of families 6 and 7
-use mathlib.Core.Path.{_≡_, refl, sym, _∙_}
+--   laid-start, laid-more                  the steps of families 6 and 7, one more at a time
+--   L-up, L-right, L-over                  L grows, so it is above 64 bits where n and m are above 33; D is at least L
+--   north-east-shaped, delannoy-shaped     the shapes of families 1 and 3
+--   laid-below, laid-above, laid-worked    what the state of the own shape of families 6 and 7 says
+--   laid-gentle                            that shape is one that can be lowered
+--   directed-shaped                        the shape of families 6 and 7
+use mathlib.Core.Path.{_≡_, refl, sym, ap, _∙_, subst}
 use mathlib.Core.Logic.{_⊎_, inl, inr}
 use mathlib.Core.Bool.{Bool, true, false, _&&_}
-use mathlib.Core.List.{List}
+use mathlib.Core.List.{List, map, reverse}
 use Prim.Native.Nat.{ℕ, zero, suc, _+_, _*_, _-_, _^_, _≤_, _<_}
 use native.Mathlib.Decide.{decLt, le-ind, ℕ-discrete}
 use native.Mathlib.Nat.{not-suc-le-zero, mul-le-mul, le-trans, le-refl}
@@ -20,25 +22,31 @@ use borrow.Author.Tests.{lt-ltb, le-ltb}
 use Rattle.howmany.specs.Choose.{pick}
 use Rattle.howmany.proofs.Choices.{and-left, and-right}
 use Rattle.howmany.proofs.Cases.{two, three, eight}
-use Rattle.backward.specs.Grid.{Steps}
+use Rattle.backward.specs.Walk.{enter}
+use Rattle.backward.specs.Grid.{Spot, Steps, grid, way, paths}
+use Rattle.backward.specs.Shears.{Slid}
+use Rattle.backward.proofs.Carried.{Barren, barren-count}
 use Rattle.rules.specs.Points.{leℤ}
 use Rattle.rules.specs.Jobs as rules
-use Rattle.rules.specs.Jobs.{Pair}
+use Rattle.rules.specs.Jobs.{Pair, stepsOf, endOf}
 use Rattle.rules.specs.Jobs.Job.{north-east, dyck, delannoy, schroder, motzkin, directed}
-use Rattle.rules.specs.Valid.{Valid}
+use Rattle.rules.specs.Valid.{place, Valid}
 use Rattle.rules.specs.Counts.{L, Dl, W, countOf, pairAt}
 use Rattle.rules.specs.Shear.{Is, lift, gridOf, Slope}
 use Rattle.rules.proofs.Signed.{is-shift, is-up, is-lift, is-apart}
-use Rattle.rules.proofs.Sheared.{some-end}
+use Rattle.rules.proofs.Sheared.{Shear, some-end, walks-word}
 use Rattle.rules.proofs.Slopes.{Small, W-none, slope-shear}
 use Rattle.job.specs.declared.Job.{Job}
 use Rattle.job.specs.Stands.{Level, Directed, Stands}
 use Rattle.job.specs.Stands.Stands.{as-north-east, as-dyck, as-delannoy, as-schroder, as-motzkin, as-open, as-fenced}
 use Rattle.grid.specs.Form.{Form, spot}
-use Rattle.grid.specs.Shapes.{Grids, Sound, FormOf, Shows, Fits, Shaped, ShapedFor, cornerState, cornerWith, cornerShape, Ranged, Laying, Laid}
+use Rattle.grid.specs.Shapes.{Grids, Sound, Sits, stepsAt, endAt, FormOf, Shows, Fits, Shaped, ShapedFor, cornerState, cornerWith, cornerShape, Ranged, Laying, Laid, Gentle, Beyond, Lowered, Chosen}
 use Rattle.grid.specs.Shapes.Shows.{slid, mirrored}
+use Rattle.grid.specs.Shapes.Lowered.{reached, unreached}
+use Rattle.grid.specs.Shapes.Chosen.{sunk, lowered}
 use Rattle.grid.specs.Shapes.Shaped.{worked, over, nothing}
 use Rattle.grid.specs.declared.shape.Shape.{Shape}
+use Rattle.grid.proofs.Lowering.{shows-same, beyond-same, beyond-barren}
 
 -- ---- the steps of families 6 and 7
 
@@ -249,6 +257,69 @@ delannoy-shaped n m ln lm = go (decLt n m)
 
 -- ---- families 6 and 7
 
+module _ (j : Job) (f : ℕ) (s : Shape) (w : Laid j f s) where
+  -- the state says whether the end is below 0
+  laid-state : (b : Bool) → ltb (j .m + 3 * j .n) 128 ≡ b → s .state ≡ pick b 2 0
+  laid-state b e = w .state-is ∙ ap (λ (t : Bool). pick t 2 0) e
+
+  pub laid-below : s .state ≡ 2 → j .m + 3 * j .n < 128
+  laid-below q = go (decLt (j .m + 3 * j .n) 128)
+    where
+      go : Dec (j .m + 3 * j .n < 128) → j .m + 3 * j .n < 128
+      go (yes l) = l
+      go (no l) = absurd (omega (arith, laid-state false (le-ltb (j .m + 3 * j .n) 128 (omega arith))))
+
+  pub laid-above : s .state ≡ 0 → 128 ≤ j .m + 3 * j .n
+  laid-above q = go (decLt (j .m + 3 * j .n) 128)
+    where
+      go : Dec (j .m + 3 * j .n < 128) → 128 ≤ j .m + 3 * j .n
+      go (yes l) = absurd (omega (arith, laid-state true (lt-ltb (j .m + 3 * j .n) 128 l)))
+      go (no l) = omega arith
+
+  pub laid-worked : (s .state ≡ 2 → ⊥) → s .state ≡ 0
+  laid-worked q = go (ltb (j .m + 3 * j .n) 128) refl
+    where
+      go : (b : Bool) → ltb (j .m + 3 * j .n) 128 ≡ b → s .state ≡ 0
+      go true e = absurd (q (laid-state true e))
+      go false e = laid-state false e
+
+  module _ (g : Ranged j) (l : f ≤ 3) where
+    laid-low : (i : ℕ) → i < 8 → Dec (i < j .k) → getD (s .sc) i 0 ≤ 12
+    laid-low i l (yes h) = omega (arith, w .steps .up i h, g .a-most i h, g .b-most i h)
+    laid-low i l (no h) = omega (arith, w .steps .flat i (omega arith) l)
+
+    laid-form : FormOf s
+    laid-form = record {
+      eight = w .steps .eight;
+      eight-too = w .steps .eight-too;
+      some = omega (arith, w .k-is, g .some);
+      most = omega (arith, w .k-is, g .few);
+      ahead = λ i l. omega (arith, w .steps .right i (omega (arith, w .k-is)), g .a-least i (omega (arith, w .k-is)));
+      near = λ i l. omega (arith, w .steps .right i (omega (arith, w .k-is)), g .a-most i (omega (arith, w .k-is)));
+      away = λ i l h. w .steps .away i (omega (arith, w .k-is)) h;
+      flat = λ i l h. w .steps .flat i (omega (arith, w .k-is)) h;
+      low = λ i l. omega (arith, w .top-is, laid-low i l (decLt i (j .k)));
+      top-le = omega (arith, w .top-is);
+      f-le = omega (arith, w .f-is);
+      ex-le = omega (arith, w .ex-is, g .n-most);
+      ey-le = omega (arith, w .ey-is, g .n-most, g .m-most);
+      cells = product (s .ex + 2) (s .top + s .ey + 1) 34 205 (omega (arith, w .ex-is, g .n-most)) (omega (arith, w .top-is, w .ey-is, g .n-most, g .m-most)) (omega arith);
+    }
+
+    pub laid-gentle : s .state ≡ 0 → Gentle s
+    laid-gentle q = record {
+      form = laid-form;
+      state-is = q;
+      top-is = w .top-is;
+      lifted = record {
+        few = laid-form .most;
+        ahead = laid-form .ahead;
+        near = laid-form .near;
+        least = λ i h. let n : i < j .k = omega (arith, w .k-is) in omega (arith, w .steps .right i n, w .steps .up i n, g .a-least i n, g .b-least i n);
+        most = λ i h. let n : i < j .k = omega (arith, w .k-is) in omega (arith, w .steps .right i n, w .steps .up i n, g .b-most i n);
+      };
+    }
+
 steep : (z : ℤ) (p : ℕ) → Is z p 128 → 125 ≤ p → T (leℤ (negsuc 2) z)
 steep (pos a) p e l = tt
 steep (negsuc a) p e l = le→leb a 2 (omega arith)
@@ -272,6 +343,22 @@ module _ (j : Job) (fenced : Bool) (m : ℤ) (pairs : List Pair) (d : Directed j
       let (q, a) = some-end J (gridOf J) (W fenced pairs) Slope (slope-shear fenced pairs small (j .n) m) e v in
       is-apart m (q .y) (3 * j .n) t (is-shift m (q .y) (3 * q .x) (q .y) (3 * j .n) (a .up) (omega (arith, a .across))) h
 
+  sunk-shaped : (r : Shape) → r .state ≡ 2 → j .m + 3 * j .n < 128 → Shaped J r
+  unfolding countOf
+  sunk-shaped r e l =
+      let t : ℕ = 127 - (j .m + 3 * j .n) in
+      let h : Is m 0 (3 * j .n + suc t) = below t (omega arith) in
+      nothing e (W-none fenced pairs small (j .n) t m h) (no-edge t h)
+
+  -- nothing leads to an end that no step leads to
+  beyond-shaped : (r : Shape) (q : Spot) → r .state ≡ 2 → Sits J q → Beyond (gridOf J) q → Shaped J r
+  unfolding countOf Valid paths
+  beyond-shaped r q e s o =
+      let H : Shear J (gridOf J) (W fenced pairs) Slope = slope-shear fenced pairs small (j .n) m in
+      let b : Barren (grid (gridOf J)) (enter (grid (gridOf J)) (way (gridOf J)) q) = beyond-barren (gridOf J) q o in
+      nothing e (H .agrees (endOf J) q s ∙ barren-count (grid (gridOf J)) (enter (grid (gridOf J)) (way (gridOf J)) q) b)
+      (λ z v. b (reverse (map (λ x. place x (stepsOf J)) z)) (subst T (walks-word J (gridOf J) (W fenced pairs) Slope H q s z) v))
+
   module _ (s : Shape) (f : ℕ) (e : f ≡ pick fenced 3 0) (w : Laid j f s) where
     lifted : (i : ℕ) → i < j .k → getD (j .b) i 0 + 3 * getD (j .a) i 0 - 128 ≡ gridOf J .c i
     lifted i l =
@@ -281,60 +368,28 @@ module _ (j : Job) (fenced : Bool) (m : ℤ) (pairs : List Pair) (d : Directed j
         (is-shift z (getD (j .b) i 0) 128 (getD (j .b) i 0 + 3 * getD (j .a) i 0 - 128) (3 * x) (d .b-is i l) (omega (arith, d .a-is i l, d .a-least i l, d .b-least i l)))
         (is-lift z (3 * x) (steep z (getD (j .b) i 0) (d .b-is i l) (d .b-least i l)) (omega (arith, d .a-is i l, d .a-least i l)))
 
-    fits : 128 ≤ j .m + 3 * j .n → Fits J s
-    fits l = record {
-      letters = w .corner-is;
-      end = spot (s .ex) (s .ey);
-      sits = record {
-        across = sym (w .ex-is);
-        up = is-shift m (j .m) 128 (s .ey) (3 * s .ex) (d .m-is) (omega (arith, w .ex-is, w .ey-is));
-      };
-      shows = slid 0
-          (record {
-            many = w .k-is ∙ sym (d .many);
-            right = λ i h. w .steps .right i (omega (arith, w .k-is)) ∙ d .a-is i (omega (arith, w .k-is));
-            up = λ i h. omega (arith, w .steps .up i (omega (arith, w .k-is)), lifted i (omega (arith, w .k-is)));
-            fence = omega (arith, w .f-is);
-          })
-          (refl, omega arith);
+    own : Slid 0 (gridOf J) (stepsAt s)
+    own = record {
+      many = w .k-is ∙ sym (d .many);
+      right = λ i h. w .steps .right i (omega (arith, w .k-is)) ∙ d .a-is i (omega (arith, w .k-is));
+      up = λ i h. omega (arith, w .steps .up i (omega (arith, w .k-is)), lifted i (omega (arith, w .k-is)));
+      fence = omega (arith, w .f-is);
     }
 
-    laid-low : (i : ℕ) → i < 8 → Dec (i < j .k) → getD (s .sc) i 0 ≤ 12
-    laid-low i l (yes h) = omega (arith, w .steps .up i h, d .a-most i h, d .b-most i h)
-    laid-low i l (no h) = omega (arith, w .steps .flat i (omega arith) l)
-
-    f-small : (b : Bool) → f ≡ pick b 3 0 → f ≤ 3
-    f-small true q = omega arith
-    f-small false q = omega arith
-
-    form : FormOf s
-    form = record {
-      eight = w .steps .eight;
-      eight-too = w .steps .eight-too;
-      some = omega (arith, w .k-is, d .some);
-      most = omega (arith, w .k-is, d .few);
-      ahead = λ i l. omega (arith, w .steps .right i (omega (arith, w .k-is)), d .a-least i (omega (arith, w .k-is)));
-      near = λ i l. omega (arith, w .steps .right i (omega (arith, w .k-is)), d .a-most i (omega (arith, w .k-is)));
-      away = λ i l h. w .steps .away i (omega (arith, w .k-is)) h;
-      flat = λ i l h. w .steps .flat i (omega (arith, w .k-is)) h;
-      low = λ i l. omega (arith, w .top-is, laid-low i l (decLt i (j .k)));
-      top-le = omega (arith, w .top-is);
-      f-le = omega (arith, w .f-is, f-small fenced e);
-      ex-le = omega (arith, w .ex-is, d .n-most);
-      ey-le = omega (arith, w .ey-is, d .n-most, d .m-most);
-      cells = product (s .ex + 2) (s .top + s .ey + 1) 34 205 (omega (arith, w .ex-is, d .n-most)) (omega (arith, w .top-is, w .ey-is, d .n-most, d .m-most)) (omega arith);
+    sits : 128 ≤ j .m + 3 * j .n → Sits J (endAt s)
+    sits l = record {
+      across = sym (w .ex-is);
+      up = is-shift m (j .m) 128 (s .ey) (3 * s .ex) (d .m-is) (omega (arith, w .ex-is, w .ey-is));
     }
 
-    pub directed-shaped : Shaped J s
-    unfolding countOf
-    directed-shaped = go (decLt (j .m + 3 * j .n) 128)
-      where
-        go : Dec (j .m + 3 * j .n < 128) → Shaped J s
-        go (yes l) =
-            let t : ℕ = 127 - (j .m + 3 * j .n) in
-            let h : Is m 0 (3 * j .n + suc t) = below t (omega arith) in
-            nothing (w .state-is ∙ rw (lt-ltb (j .m + 3 * j .n) 128 l)) (W-none fenced pairs small (j .n) t m h) (no-edge t h)
-        go (no l) = worked (w .state-is ∙ rw (le-ltb (j .m + 3 * j .n) 128 (omega arith))) form (fits (omega arith))
+    lowered-shaped : (r : Shape) → s .state ≡ 0 → Lowered s r → Shaped J r
+    lowered-shaped r q (reached z c form v) =
+        worked z form (record { letters = c ∙ w .corner-is; end = endAt s; sits = sits (laid-above j f s w q); shows = shows-same (gridOf J) (stepsAt s) own (endAt s) r v })
+    lowered-shaped r q (unreached z o) = beyond-shaped r (endAt s) z (sits (laid-above j f s w q)) (beyond-same (gridOf J) (stepsAt s) own (endAt s) o)
+
+  pub directed-shaped : (r : Shape) (f : ℕ) → f ≡ pick fenced 3 0 → Chosen j f r → Shaped J r
+  directed-shaped r f e (sunk w q) = sunk-shaped r q (laid-below j f r w q)
+  directed-shaped r f e (lowered s w q l) = lowered-shaped s f e w r q l
 
 -- ---- by what a held job stands for
 
@@ -415,7 +470,7 @@ module _ (j : Job) (s : Shape) where
   shaped-3 h q (directed f n m p) (as-open e v) = absurd (omega arith)
   shaped-3 h q (directed f n m p) (as-fenced e v) = absurd (omega arith)
 
-  pub shaped-6 : j .family ≡ 6 → Laid j 0 s → ShapedFor j s
+  pub shaped-6 : j .family ≡ 6 → Chosen j 0 s → ShapedFor j s
   shaped-6 h w (north-east n m) (as-north-east e v) = absurd (omega arith)
   shaped-6 h w (dyck n) (as-dyck e v) = absurd (omega arith)
   shaped-6 h w (delannoy n m) (as-delannoy e v) = absurd (omega arith)
@@ -424,7 +479,7 @@ module _ (j : Job) (s : Shape) where
   shaped-6 h w (directed f n m p) (as-open e d) = directed-shaped j false m p d s 0 refl w
   shaped-6 h w (directed f n m p) (as-fenced e v) = absurd (omega arith)
 
-  pub shaped-7 : j .family ≡ 7 → Laid j 3 s → ShapedFor j s
+  pub shaped-7 : j .family ≡ 7 → Chosen j 3 s → ShapedFor j s
   shaped-7 h w (north-east n m) (as-north-east e v) = absurd (omega arith)
   shaped-7 h w (dyck n) (as-dyck e v) = absurd (omega arith)
   shaped-7 h w (delannoy n m) (as-delannoy e v) = absurd (omega arith)

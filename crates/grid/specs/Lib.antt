@@ -3,6 +3,7 @@ pub mod Cells
 pub mod Table
 pub mod Filling
 pub mod Edges
+pub mod Heights
 pub mod Shapes
 pub mod Calls
 pub mod Numbering

@@ -13,12 +13,18 @@
 --   cornerState n m     1 where n and m are above 33
 --   cornerWith          a shape of families 1 (d false) and 3 (d true): its end at height ey, N going up by north and E by east
 --   cornerShape n m d   their shape, mirrored where n is below m
---   Ranged j            the ranges of families 6 and 7; Laid j f s: their shape; Laying: their steps so far
+--   Ranged j            the ranges of families 6 and 7
+--   Laying, Laid j f s  their own steps so far; their own shape, with each height as in the job's own grid
+--   Gentle s            the shape s has steps as those families have, and can be lowered
+--   Beyond G q          the end q lies below the least steep step of G, or above the steepest
+--   Lowered s r         the shape r shows what s shows, or says that nothing leads to its end
+--   View t d s          what s must be to be slid down by d, or mirrored at d where t
+--   Chosen j f r        the shape r of families 6 and 7
 use mathlib.Core.Path.{_≡_}
 use mathlib.Core.Bool.{Bool, true, false, _&&_}
 use mathlib.Core.List.{List, [], _∷_}
 use Prim.Native.Nat.{ℕ, _+_, _*_, _-_, _^_, _≤_, _<_}
-use lib.Dec.{ltb}
+use lib.Dec.{T, ltb}
 use lib.ListN.{length, getD}
 use Rattle.howmany.specs.Choose.{pick, bit}
 use Rattle.backward.specs.Grid.{Spot, Steps}
@@ -32,6 +38,7 @@ use Rattle.rules.specs.Shear.{gridOf, Corner, Slope}
 use Rattle.job.specs.declared.Job.{Job}
 use Rattle.job.specs.Stands.{Stands}
 use Rattle.grid.specs.Form.{Form, stepsIn, spot}
+use Rattle.grid.specs.Heights.{Lifted, Beside, Bounds}
 use Rattle.grid.specs.declared.shape.Shape.{Shape}
 
 abbrev pub Grids : rules.Job → Type 0
@@ -149,3 +156,30 @@ pub record Laid (j : Job) (f : ℕ) (s : Shape) : Type 0 where
   pub ex-is : s .ex ≡ j .n
   pub ey-is : s .ey ≡ j .m + 3 * j .n - 128
   pub steps : Laying (j .a) (j .b) (s .sa) (s .sc) (j .k)
+
+pub record Gentle (s : Shape) : Type 0 where
+  pub form : FormOf s
+  pub state-is : s .state ≡ 0
+  pub top-is : s .top ≡ 12
+  pub lifted : Lifted (s .k) (s .sa) (s .sc)
+
+pub data Beyond (G : Steps) (q : Spot) : Type 0 where
+  below : (d : ℕ) → ((i : ℕ) → i < G .k → d * G .a i ≤ G .c i) → q .y < d * q .x → Beyond G q
+  above : (d : ℕ) → ((i : ℕ) → i < G .k → G .c i ≤ d * G .a i) → d * q .x < q .y → Beyond G q
+
+pub data Lowered (s r : Shape) : Type 0 where
+  reached : r .state ≡ 0 → r .corner ≡ s .corner → FormOf r → Shows (stepsAt s) (endAt s) r → Lowered s r
+  unreached : r .state ≡ 2 → Beyond (stepsAt s) (endAt s) → Lowered s r
+
+-- a mirrored shape has no fence, and its end is no higher than before
+pub record View (t : Bool) (d : ℕ) (s : Shape) : Type 0 where
+  pub gentle : Gentle s
+  pub bounds : Bounds t d (s .k) (s .sa) (s .sc)
+  pub end : Beside t (s .ey) (d * s .ex)
+  pub free : T t → s .f ≡ 0
+  pub near : T t → d * s .ex ≤ s .ey + s .ey
+
+-- no height of the job's own grid is below 0, so nothing leads to an end that is
+pub data Chosen (j : Job) (f : ℕ) (r : Shape) : Type 0 where
+  sunk : Laid j f r → r .state ≡ 2 → Chosen j f r
+  lowered : (s : Shape) → Laid j f s → s .state ≡ 0 → Lowered s r → Chosen j f r

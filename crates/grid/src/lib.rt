@@ -12,6 +12,7 @@ mod cone;
 mod counting;
 mod edges;
 mod flags;
+mod heights;
 mod numbering;
 mod plan;
 mod shape;

@@ -1,8 +1,14 @@
-// From a job to the grid's form of it: the shear (x + y, y) for families 1 and 3, (x, y + 3x) for 6 and 7.
+// From a job to the grid's form of it: the shear (x + y, y) for families 1 and 3, (x, y + 3x) for 6 and 7, and then the heights that put
+// the end lowest, so that the table is small.
 ghost use mathlib.Core.Path.{_≡_};
 ghost use mathlib.Core.Bool.{true, false};
 ghost use Prim.Native.Nat.{_≤_, _<_, _+_, _*_};
-ghost use Rattle.grid.specs.Shapes.{cornerState, cornerWith, cornerShape, Laid, Sound, Ranged, ShapedFor};
+ghost use Rattle.grid.specs.Shapes.{cornerState, cornerWith, cornerShape, Laid, Sound, Ranged, ShapedFor, Gentle, Lowered, View, Chosen};
+use crate::heights::fence;
+use crate::heights::height;
+use crate::heights::heights;
+use crate::heights::highest;
+use crate::heights::lowest;
 use job::Job;
 
 // What the table is filled for. State 0: steps and an end; 1: the count needs more than 64 bits; 2: nothing leads to the end.
@@ -80,8 +86,8 @@ fn corner_shape(n: usize, m: usize, diagonal: bool) -> Shape
     corner_with(n, m, m, 1, 0, diagonal)
 }
 
-// Families 6 and 7; f is the fence's slope. An end below -3n can't be reached.
-fn directed_shape(job: Job, f: usize) -> Shape
+// Families 6 and 7 with the job's own heights; f is the fence's slope. An end below -3n can't be reached.
+fn own_shape(job: Job, f: usize) -> Shape
     requires { ⌜ Ranged job × (f ≤ 3) ⌝ }
     ensures { λ r. ⌜ Laid job f r ⌝ }
 {
@@ -123,6 +129,72 @@ fn directed_shape(job: Job, f: usize) -> Shape
         sa,
         sc,
     }
+}
+
+// The shape s where nothing leads to its end.
+fn unreached(mut s: Shape) -> Shape
+    ensures { λ r. ⌜ r .state ≡ 2 ⌝ }
+{
+    s.state = 2;
+    s
+}
+
+// The shape s slid down by d a column, or mirrored at the slope d.
+fn seen(mut s: Shape, mirrored: bool, d: usize) -> Shape
+    requires { ⌜ View mirrored d s ⌝ }
+    ensures { λ r. ⌜ Lowered s r ⌝ }
+{
+    let sa = s.sa;
+    let sc = s.sc;
+    let k = s.k;
+    let level = d * s.ex;
+    let up = heights(mirrored, d, &sa, &sc, k);
+    s.f = fence(s.f, d);
+    s.ey = height(mirrored, s.ey, level);
+    s.sc = up;
+    s
+}
+
+// The shape s with its end as low as it can be: above the least steep step, or below the steepest where there is no fence.
+fn lowered(s: Shape) -> Shape
+    requires { ⌜ Gentle s ⌝ }
+    ensures { λ r. ⌜ Lowered s r ⌝ }
+{
+    let sa = s.sa;
+    let sc = s.sc;
+    let k = s.k;
+    let f = s.f;
+    let y = s.ey;
+    let low = lowest(&sa, &sc, k);
+    let high = highest(&sa, &sc, k);
+    let floor = low * s.ex;
+    let roof = high * s.ex;
+    if y < floor {
+        return unreached(s);
+    }
+    if roof < y {
+        return unreached(s);
+    }
+    if 0 < f {
+        return seen(s, false, low);
+    }
+    if roof - y < y - floor {
+        return seen(s, true, high);
+    }
+    seen(s, false, low)
+}
+
+// Families 6 and 7; f is the fence's slope.
+fn directed_shape(job: Job, f: usize) -> Shape
+    requires { ⌜ Ranged job × (f ≤ 3) ⌝ }
+    ensures { λ r. ⌜ Chosen job f r ⌝ }
+{
+    let own = own_shape(job, f);
+    let state = own.state;
+    if state == 2 {
+        return own;
+    }
+    lowered(own)
 }
 
 // A job of family 1, 3, 6 or 7 in the grid's form.

@@ -1,112 +1,25 @@
--- `grid::shape::directed_shape` meets its contract: the steps are laid one by one. Assumes nothing.
-use mathlib.Core.Path.{_≡_, refl, sym, ap}
-use Prim.Native.Nat.{_≤_, _-_, _+_, _*_}
-use native.Mathlib.Omega.{arith}
-use Rattle.howmany.specs.Choose.{pick}
-use borrow.Author.Tests.{lt-ltb, le-ltb}
-use Rattle.grid.specs.Shapes.{Laying}
-use Rattle.grid.proofs.Shaping.{laid-start, laid-more}
+-- `grid::shape::directed_shape` meets its contract: the job's own shape, lowered where its end is not below 0. Assumes nothing.
 use borrow.Author.Needs.{needs}
+use Rattle.grid.specs.Shapes.Chosen.{sunk, lowered}
+use Rattle.grid.proofs.Shaping.{laid-worked, laid-gentle}
 use Rattle.grid.proofs.shape.directed_shape.Statement.{statement}
 use Rattle.grid.proofs.shape.directed_shape.Tie as tie
 
-abbrev Inv-loop : tie.InvT-loop
-Inv-loop f n up k a b sa₀ sc₀ i₀ sa sc i = (i ≤ k) × Laying a b sa sc i
+own-shape-requires : tie.Need-own-shape-requires
+own-shape-requires c κs = search needs
 
-abbrev μ-loop : tie.MeasureT-loop
-μ-loop f n up k a b sa₀ sc₀ i₀ sa sc i = k - i
+returns : tie.Need-returns
+returns c = sunk (c .before .own-shape .ensures) (c .if1 .taken)
 
-wide-requires : tie.Need-wide-requires Inv-loop μ-loop
-wide-requires c κs = search needs
+lowered-requires : tie.Need-lowered-requires
+lowered-requires c κs =
+    let w = c .before .own-shape .ensures in
+    laid-gentle _ _ _ w (c .before .before .pre .0) (c .before .before .pre .1) (laid-worked _ _ _ w (c .if1 .left))
 
-wide-requires-2 : tie.Need-wide-requires-2 Inv-loop μ-loop
-wide-requires-2 c κs = search needs
-
-mul-up : tie.Need-mul-up Inv-loop μ-loop
-mul-up c = search needs
-
-add-up : tie.Need-add-up Inv-loop μ-loop
-add-up c = search needs
-
-wide-requires-3 : tie.Need-wide-requires-3 Inv-loop μ-loop
-wide-requires-3 c κs = search needs
-
-loop-holds : tie.Need-loop-holds Inv-loop μ-loop
-loop-holds c = (omega arith, laid-start _ _)
-
-array-read-wide : tie.Need-array-read-wide Inv-loop μ-loop
-array-read-wide c = omega (arith, c .before .before .before .before .wide3 .ensures, c .before .before .before .before .before .before .before .pre .0 .few)
-
-wide-requires-4 : tie.Need-wide-requires-4 Inv-loop μ-loop
-wide-requires-4 c κs = search needs
-
-mul-sa : tie.Need-mul-sa Inv-loop μ-loop
-mul-sa c = search needs
-
-array-write-sa : tie.Need-array-write-sa Inv-loop μ-loop
-array-write-sa c = omega (arith, c .before .before .before .before .before .wide3 .ensures, c .before .before .before .before .before .before .before .before .pre .0 .few, c .before .before .loop .inv .1 .eight)
-
-array-read-wide-2 : tie.Need-array-read-wide-2 Inv-loop μ-loop
-array-read-wide-2 c = omega (arith, c .before .before .before .before .before .wide3 .ensures, c .before .before .before .before .before .before .before .before .pre .0 .few)
-
-wide-requires-5 : tie.Need-wide-requires-5 Inv-loop μ-loop
-wide-requires-5 c κs = search needs
-
-mul-sc : tie.Need-mul-sc Inv-loop μ-loop
-mul-sc c = omega (arith, c .before .wide4 .ensures, c .before .before .before .before .before .before .before .before .before .pre .0 .a-least (c .before .before .before .loop .i) (omega (arith, c .before .before .before .before .before .before .wide3 .ensures)), c .before .before .before .before .before .before .before .before .before .pre .0 .a-most (c .before .before .before .loop .i) (omega (arith, c .before .before .before .before .before .before .wide3 .ensures)))
-
-add-sc : tie.Need-add-sc Inv-loop μ-loop
-add-sc c = omega (arith, c .before .wide4 .ensures, c .wide5 .ensures, c .before .before .before .before .before .before .before .before .before .pre .0 .a-least (c .before .before .before .loop .i) (omega (arith, c .before .before .before .before .before .before .wide3 .ensures)), c .before .before .before .before .before .before .before .before .before .pre .0 .a-most (c .before .before .before .loop .i) (omega (arith, c .before .before .before .before .before .before .wide3 .ensures)), c .before .before .before .before .before .before .before .before .before .pre .0 .b-least (c .before .before .before .loop .i) (omega (arith, c .before .before .before .before .before .before .wide3 .ensures)), c .before .before .before .before .before .before .before .before .before .pre .0 .b-most (c .before .before .before .loop .i) (omega (arith, c .before .before .before .before .before .before .wide3 .ensures)))
-
-sub-sc : tie.Need-sub-sc Inv-loop μ-loop
-sub-sc c = omega (arith, c .before .wide4 .ensures, c .wide5 .ensures, c .before .before .before .before .before .before .before .before .before .pre .0 .a-least (c .before .before .before .loop .i) (omega (arith, c .before .before .before .before .before .before .wide3 .ensures)), c .before .before .before .before .before .before .before .before .before .pre .0 .a-most (c .before .before .before .loop .i) (omega (arith, c .before .before .before .before .before .before .wide3 .ensures)), c .before .before .before .before .before .before .before .before .before .pre .0 .b-least (c .before .before .before .loop .i) (omega (arith, c .before .before .before .before .before .before .wide3 .ensures)), c .before .before .before .before .before .before .before .before .before .pre .0 .b-most (c .before .before .before .loop .i) (omega (arith, c .before .before .before .before .before .before .wide3 .ensures)))
-
-mul-sc-2 : tie.Need-mul-sc-2 Inv-loop μ-loop
-mul-sc-2 c = search needs
-
-array-write-sc : tie.Need-array-write-sc Inv-loop μ-loop
-array-write-sc c = omega (arith, c .before .before .before .before .before .before .wide3 .ensures, c .before .before .before .before .before .before .before .before .before .pre .0 .few, c .before .before .before .loop .inv .1 .eight-too)
-
-add-i : tie.Need-add-i Inv-loop μ-loop
-add-i c = search needs
-
-loop-less : tie.Need-loop-less Inv-loop μ-loop
-loop-less c = search needs
-
-loop-again : tie.Need-loop-again Inv-loop μ-loop
-loop-again c = (omega arith, laid-more _ _ _ _ (c .before .before .before .loop .i) _ _ (c .before .before .before .loop .inv .1) (omega (arith, c .before .before .before .before .before .before .wide3 .ensures, c .before .before .before .before .before .before .before .before .before .pre .0 .few)) (c .before .wide4 .ensures) (omega (arith, c .before .wide4 .ensures, c .wide5 .ensures)))
-
-returns : tie.Need-returns Inv-loop μ-loop
-returns c = let e : c .before .before .loop .i ≡ c .before .before .before .before .before .before .before .before .args .job .k = omega (arith, c .before .before .before .before .before .wide3 .ensures) in record { state-is = sym (ap (λ t. pick t 2 0) (lt-ltb (c .before .before .before .before .before .before .before .before .args .job .m + 3 * c .before .before .before .before .before .before .before .before .args .job .n) 128 (omega (arith, c .before .before .before .before .before .before .before .wide .ensures, c .before .before .before .before .before .before .wide2 .ensures)))); corner-is = refl; k-is = c .before .before .before .before .before .wide3 .ensures; f-is = refl; top-is = refl; ex-is = c .before .before .before .before .before .before .before .wide .ensures; ey-is = omega (arith, c .before .before .before .before .before .before .before .wide .ensures, c .before .before .before .before .before .before .wide2 .ensures); steps = rw e at (c .before .before .loop .inv .1) }
-
-returns-2 : tie.Need-returns-2 Inv-loop μ-loop
-returns-2 c = let e : c .before .before .loop .i ≡ c .before .before .before .before .before .before .before .before .args .job .k = omega (arith, c .before .before .before .before .before .wide3 .ensures) in record { state-is = sym (ap (λ t. pick t 2 0) (le-ltb (c .before .before .before .before .before .before .before .before .args .job .m + 3 * c .before .before .before .before .before .before .before .before .args .job .n) 128 (omega (arith, c .before .before .before .before .before .before .before .wide .ensures, c .before .before .before .before .before .before .wide2 .ensures)))); corner-is = refl; k-is = c .before .before .before .before .before .wide3 .ensures; f-is = refl; top-is = refl; ex-is = c .before .before .before .before .before .before .before .wide .ensures; ey-is = omega (arith, c .before .before .before .before .before .before .before .wide .ensures, c .before .before .before .before .before .before .wide2 .ensures); steps = rw e at (c .before .before .loop .inv .1) }
+returns-2 : tie.Need-returns-2
+returns-2 c =
+    let w = c .before .before .own-shape .ensures in
+    lowered _ w (laid-worked _ _ _ w (c .before .if1 .left)) (c .lowered .ensures)
 
 pub directed-shape-spec : {M : Type 1} → statement M
-directed-shape-spec =
-    tie.close
-    (tie.spec
-    Inv-loop
-    μ-loop
-    wide-requires
-    wide-requires-2
-    mul-up
-    add-up
-    wide-requires-3
-    loop-holds
-    array-read-wide
-    wide-requires-4
-    mul-sa
-    array-write-sa
-    array-read-wide-2
-    wide-requires-5
-    mul-sc
-    add-sc
-    sub-sc
-    mul-sc-2
-    array-write-sc
-    add-i
-    loop-less
-    loop-again
-    returns
-    returns-2)
+directed-shape-spec = tie.close (tie.spec own-shape-requires returns lowered-requires returns-2)

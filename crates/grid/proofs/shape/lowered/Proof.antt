@@ -1,0 +1,70 @@
+-- `grid::shape::lowered` meets its contract: an end below the lowest slope or above the highest is out of reach, and others are seen from
+-- one of the two. Assumes nothing.
+use native.Mathlib.Nat.{mul-le-mul}
+use native.Mathlib.Omega.{arith}
+use borrow.Author.Needs.{needs}
+use Rattle.grid.specs.Shapes.Beyond.{below, above}
+use Rattle.grid.specs.Shapes.Lowered.{unreached}
+use Rattle.grid.proofs.shape.lowered.Statement.{statement}
+use Rattle.grid.proofs.shape.lowered.Tie as tie
+
+lowest-requires : tie.Need-lowest-requires
+lowest-requires c κs = search needs
+
+highest-requires : tie.Need-highest-requires
+highest-requires c κs = search needs
+
+mul-floor : tie.Need-mul-floor
+mul-floor c = omega (arith, mul-le-mul (c .before .before .before .before .lowest .ensures .small) (c .before .before .before .before .before .before .before .before .before .pre .form .ex-le))
+
+mul-roof : tie.Need-mul-roof
+mul-roof c = omega (arith, mul-le-mul (c .before .before .highest .ensures .small) (c .before .before .before .before .before .before .before .before .before .before .pre .form .ex-le))
+
+unreached-requires : tie.Need-unreached-requires
+unreached-requires c κs = search needs
+
+returns : tie.Need-returns
+returns c = unreached (c .unreached .ensures) (below _ (c .before .before .before .before .before .before .before .lowest .ensures .each) (c .before .if1 .taken))
+
+unreached-requires-2 : tie.Need-unreached-requires-2
+unreached-requires-2 c κs = search needs
+
+returns-2 : tie.Need-returns-2
+returns-2 c = unreached (c .unreached2 .ensures) (above _ (c .before .before .before .before .before .highest .ensures .each) (c .before .if2 .taken))
+
+seen-requires : tie.Need-seen-requires
+seen-requires c κs = record { gentle = c .before .before .before .before .before .before .before .before .before .before .before .before .before .pre; bounds = c .before .before .before .before .before .before .before .before .lowest .ensures; end = omega arith; free = λ t. absurd t; near = λ t. absurd t }
+
+returns-3 : tie.Need-returns-3
+returns-3 c = search needs
+
+seen-requires-2 : tie.Need-seen-requires-2
+seen-requires-2 c κs = record { gentle = c .before .before .before .before .before .before .before .before .before .before .before .before .before .before .pre; bounds = c .before .before .before .before .before .before .highest .ensures; end = omega arith; free = λ t. omega arith; near = λ t. omega arith }
+
+returns-4 : tie.Need-returns-4
+returns-4 c = search needs
+
+seen-requires-3 : tie.Need-seen-requires-3
+seen-requires-3 c κs = record { gentle = c .before .before .before .before .before .before .before .before .before .before .before .before .before .before .pre; bounds = c .before .before .before .before .before .before .before .before .before .lowest .ensures; end = omega arith; free = λ t. absurd t; near = λ t. absurd t }
+
+returns-5 : tie.Need-returns-5
+returns-5 c = search needs
+
+pub lowered-spec : {M : Type 1} → statement M
+lowered-spec =
+    tie.close
+    (tie.spec
+    lowest-requires
+    highest-requires
+    mul-floor
+    mul-roof
+    unreached-requires
+    returns
+    unreached-requires-2
+    returns-2
+    seen-requires
+    returns-3
+    seen-requires-2
+    returns-4
+    seen-requires-3
+    returns-5)

@@ -1,0 +1,113 @@
+// Steps in lower heights: how far they lie above the slope of the least steep step, or below that of the steepest.
+ghost use mathlib.Core.Path.{_≡_};
+ghost use mathlib.Core.Bool.{true, false};
+ghost use Prim.Native.Nat.{_+_, _-_, _*_, _≤_};
+ghost use Rattle.grid.specs.Heights.{Lifted, Beside, Height, Bounds, Heights};
+
+fn lesser(a: usize, b: usize) -> usize
+    ensures { λ r. ⌜ (r ≤ a) × (r ≤ b) ⌝ }
+{
+    if a < b { a } else { b }
+}
+
+fn greater(a: usize, b: usize) -> usize
+    requires { ⌜ (a ≤ 6) × (b ≤ 6) ⌝ }
+    ensures { λ r. ⌜ (a ≤ r) × (b ≤ r) × (r ≤ 6) ⌝ }
+{
+    if a < b { b } else { a }
+}
+
+// The lesser of d and the slope of a step, rounded down.
+fn gentler(d: usize, a: usize, c: usize) -> usize
+    requires { ⌜ (1 ≤ a) × (a ≤ 3) ⌝ }
+    ensures { λ r. ⌜ (r ≤ d) × (r * a ≤ c) ⌝ }
+{
+    if a == 1 {
+        return lesser(d, c);
+    }
+    if a == 2 {
+        return lesser(d, c / 2);
+    }
+    lesser(d, c / 3)
+}
+
+// The greater of d and the slope of a step, rounded up.
+fn steeper(d: usize, a: usize, c: usize) -> usize
+    requires { ⌜ (d ≤ 6) × (1 ≤ a) × (a ≤ 3) × (c ≤ 3 * a + 3) ⌝ }
+    ensures { λ r. ⌜ (d ≤ r) × (r ≤ 6) × (c ≤ r * a) ⌝ }
+{
+    if a == 1 {
+        return greater(d, c);
+    }
+    if a == 2 {
+        return greater(d, (c + 1) / 2);
+    }
+    greater(d, (c + 2) / 3)
+}
+
+// The lowest slope of the first k steps, rounded down.
+pub(crate) fn lowest(sa: &[usize; 8], sc: &[usize; 8], k: usize) -> usize
+    requires { ⌜ Lifted k (now sa) (now sc) ⌝ }
+    ensures { λ r. ⌜ Bounds false r k (now (sa .entry)) (now (sc .entry)) ⌝ }
+{
+    let mut d: usize = 6;
+    let mut i = 0;
+    while i < k {
+        d = gentler(d, sa[i], sc[i]);
+        i += 1;
+    }
+    d
+}
+
+// The highest, rounded up.
+pub(crate) fn highest(sa: &[usize; 8], sc: &[usize; 8], k: usize) -> usize
+    requires { ⌜ Lifted k (now sa) (now sc) ⌝ }
+    ensures { λ r. ⌜ Bounds true r k (now (sa .entry)) (now (sc .entry)) ⌝ }
+{
+    let mut d: usize = 0;
+    let mut i = 0;
+    while i < k {
+        d = steeper(d, sa[i], sc[i]);
+        i += 1;
+    }
+    d
+}
+
+// How far the height y lies above the level, or below it where mirrored.
+pub(crate) fn height(mirrored: bool, y: usize, level: usize) -> usize
+    requires { ⌜ Beside mirrored y level ⌝ }
+    ensures { λ r. ⌜ Height mirrored y level r ⌝ }
+{
+    if mirrored {
+        return level - y;
+    }
+    y - level
+}
+
+// The same of each of the first k steps, from the slope d.
+pub(crate) fn heights(
+    mirrored: bool,
+    d: usize,
+    sa: &[usize; 8],
+    sc: &[usize; 8],
+    k: usize,
+) -> [usize; 8]
+    requires { ⌜ Lifted k (now sa) (now sc) × Bounds mirrored d k (now sa) (now sc) ⌝ }
+    ensures { λ r. ⌜ Heights mirrored d (now (sa .entry)) (now (sc .entry)) r k ⌝ }
+{
+    let mut up = [0usize; 8];
+    let mut i = 0;
+    while i < k {
+        let level = d * sa[i];
+        up[i] = height(mirrored, sc[i], level);
+        i += 1;
+    }
+    up
+}
+
+// The slope of the fence from the slope d; a fence below that is none.
+pub(crate) fn fence(f: usize, d: usize) -> usize
+    ensures { λ r. ⌜ r ≡ f - d ⌝ }
+{
+    if f < d { 0 } else { f - d }
+}
