@@ -3,12 +3,14 @@
 --   C n                      the count for n
 --   part n i                 the products for the sizes below i
 --   fits, zero-is            the count fits, and for 0 it is 1
---   part-next, part-fits     one product more, and that it fits
+--   part-next, part-fits     of the products from i up to half, one more, and that it fits
+--   all-in                   the products up to half, once i is 0
 --   twice-fits, even-is, odd-is    the count is twice the first half of the products, and for an odd n the middle one
 --   good-none, good-set      an empty memo is good, and so is one with an entry more
+--   kept-same, kept-on, kept-set    nothing is lost by nothing, by two changes that lose nothing, and by an entry more
 --   Filled k l               the entries of l below k are the counts
---   filled-none, filled-next, filled-table    so at the start, with an entry more, and at the end
-use mathlib.Core.Path.{_≡_, refl, sym, _∙_}
+--   filled-none, filled-kept, filled-next, filled-table    so at the start, if nothing is lost, with an entry more, and at the end
+use mathlib.Core.Path.{_≡_, refl, sym, ap, _∙_}
 use mathlib.Core.Bool.{false}
 use mathlib.Core.Logic.{_≢_}
 use mathlib.Core.List.{List}
@@ -21,10 +23,10 @@ use lib.Seq.{getD-set-same, getD-set-other}
 use Rattle.job.proofs.Puts.{zeros-at}
 use Rattle.arches.specs.Counts.{count, before}
 use Rattle.arches.proofs.Counting.{count-zero, before-mono}
-use Rattle.arches.proofs.Limits.{dyck-limit}
+use Rattle.arches.proofs.Limits.{dyck-limit, count-mono}
 use Rattle.arch.specs.Table.{Table}
-use Rattle.arch.specs.Memo.{Good}
-use Rattle.arch.proofs.Tables.{before-next}
+use Rattle.arch.specs.Memo.{Good, Kept}
+use Rattle.arch.proofs.Tables.{before-none, before-next}
 use Rattle.arch.proofs.Sides.{sides, whole-is}
 
 abbrev pub C : ℕ → ℕ
@@ -46,14 +48,18 @@ halves n i pos h =
     let g : n - 1 + 0 + 1 ≡ n = omega arith in
     omega (arith, rw e at (sides false 0 (n - 1) i (omega arith)), rw (g, e) at (whole-is false 0 (n - 1)))
 
-module _ (n i a b s : ℕ) (pos : 0 < n) (ea : a ≡ C i) (eb : b ≡ C (n - 1 - i)) (es : s ≡ part n i) where
-  pub part-next : s + a * b ≡ part n (i + 1)
-  part-next = rw (ea, eb, es) (sym (before-next false 0 (n - 1) i))
+module _ (n i half a b s : ℕ) (pos : 0 < n) (ea : a ≡ C i) (eb : b ≡ C (n - 1 - i)) (es : s + part n (i + 1) ≡ part n half) where
+  pub part-next : s + a * b + part n i ≡ part n half
+  part-next = rw (ea, eb) (omega (arith, es, before-next false 0 (n - 1) i))
 
-  pub part-fits : n ≤ 36 → i < n → s + a * b < 2 ^ 64
+  pub part-fits : n ≤ 36 → half ≤ n → s + a * b < 2 ^ 64
   part-fits h l =
       let z : n - n ≡ 0 = omega arith in
-      omega (arith, part-next, fits n h, halves n n pos (omega arith), before-mono false 0 (n - 1) (i + 1) n (omega arith))
+      omega (arith, part-next, fits n h, halves n n pos (omega arith), before-mono false 0 (n - 1) half n l)
+
+-- none are left below 0
+pub all-in : (n i half s : ℕ) → i ≡ 0 → s + part n i ≡ part n half → s ≡ part n half
+all-in n i half s e h = omega (arith, before-none false 0 (n - 1), rw e at h)
 
 module _ (n half s : ℕ) (pos : 0 < n) (eh : half ≡ n / 2) (es : s ≡ part n half) where
   pub twice-fits : n ≤ 36 → s + s < 2 ^ 64
@@ -82,6 +88,24 @@ good-set l n w g e k ne = go (ℕ-discrete k n) (decLe (length l) n)
     go (yes q) (no h) = rw q (getD-set-same l n w 0 (omega arith) ∙ e)
     go (no q) h = getD-set-other l n k w 0 q ∙ g k (λ z. ne (getD-set-other l n k w 0 q ∙ z))
 
+pub kept-same : (l : List ℕ) → Kept l l
+kept-same l = record { long = refl; same = λ k ne. refl }
+
+pub kept-on : {l m o : List ℕ} → Kept l m → Kept m o → Kept l o
+kept-on f g = record {
+  long = g .long ∙ f .long;
+  same = λ k ne. g .same k (λ z. ne (sym (f .same k ne) ∙ z)) ∙ f .same k ne;
+}
+
+pub kept-set : (l : List ℕ) (n w : ℕ) → Good l → w ≡ C n → Kept l (set l n w)
+unfolding Good
+kept-set l n w g e = record { long = length-set l n w; same = λ k ne. go k ne (ℕ-discrete k n) (decLe (length l) k) }
+  where
+    go : (k : ℕ) → getD l k 0 ≢ 0 → Dec (k ≡ n) → Dec (length l ≤ k) → getD (set l n w) k 0 ≡ getD l k 0
+    go k ne (yes q) (yes h) = absurd (ne (List·getD-eq-default l 0 h))
+    go k ne (yes q) (no h) = rw q (getD-set-same l n w 0 (omega arith)) ∙ e ∙ ap C (sym q) ∙ sym (g k ne)
+    go k ne (no q) h = getD-set-other l n k w 0 q
+
 -- ---- the table: the entries below k are the counts
 unfoldable pub Filled : ℕ → List ℕ → Type 0
 Filled k l = (j : ℕ) → j < k → getD l j 0 ≡ C j
@@ -89,6 +113,11 @@ Filled k l = (j : ℕ) → j < k → getD l j 0 ≡ C j
 pub filled-none : (l : List ℕ) → Filled 0 l
 unfolding Filled
 filled-none l j h = absurd (not-suc-le-zero h)
+
+pub filled-kept : (k : ℕ) (l m : List ℕ) → Filled k l → Kept l m → Filled k m
+unfolding Filled
+filled-kept k l m f g j h =
+    g .same j (λ z. omega (arith, f j h, count-zero false 0, count-mono false 0 refl 0 j (omega arith))) ∙ f j h
 
 pub filled-next : (k w : ℕ) (l : List ℕ) → Filled k l → k < length l → w ≡ C k → Filled (k + 1) (set l k w)
 unfolding Filled

@@ -4,35 +4,46 @@ ghost use mathlib.Core.Bool.{false};
 ghost use Prim.Native.Nat.{_≤_};
 ghost use Rattle.arches.specs.Counts.{count};
 ghost use Rattle.arch.specs.Table.{Table};
-ghost use Rattle.arch.specs.Memo.{Good};
+ghost use Rattle.arch.specs.Memo.{Good, Kept};
 
-// C(n), with what is known so far lent along. The products for i and n - 1 - i are equal, so half of them are worked out.
-fn count_memo(memo: &mut [u64; 37], n: usize) -> u64
+// C(n) of a part, with what is known so far lent along: what is known is not worked out again. Only count_memo calls this, so
+// that it is compiled to a test there, and a call is made for what is not known.
+fn part_count(memo: &mut [u64; 37], n: usize) -> u64
     requires { ⌜ (n ≤ 36) × Good (now memo) ⌝ }
-    ensures { λ r. ⌜ (r ≡ count false 0 n) × Good (now (memo .exit)) ⌝ }
+    ensures { λ r. ⌜ (r ≡ count false 0 n) × Good (now (memo .exit)) × Kept (now (memo .entry)) (now (memo .exit)) ⌝ }
 {
-    if n == 0 {
-        return 1;
-    }
     let known = memo[n];
     if known != 0 {
         return known;
     }
+    count_memo(memo, n)
+}
+
+// C(n), worked out from the counts of an arch's two parts, and kept. The products for i and n - 1 - i are equal, so half of them
+// are worked out: the middle ones first, so that the calls stay few deep.
+fn count_memo(memo: &mut [u64; 37], n: usize) -> u64
+    requires { ⌜ (n ≤ 36) × Good (now memo) ⌝ }
+    ensures { λ r. ⌜ (r ≡ count false 0 n) × Good (now (memo .exit)) × Kept (now (memo .entry)) (now (memo .exit)) ⌝ }
+{
+    if n == 0 {
+        memo[0] = 1;
+        return 1;
+    }
     let half = n / 2;
     let mut sum: u64 = 0;
-    let mut i = 0;
-    while i < half {
-        let a = count_memo(memo, i);
-        let b = count_memo(memo, n - 1 - i);
+    let mut i = half;
+    while 0 < i {
+        i -= 1;
+        let a = part_count(memo, i);
+        let b = part_count(memo, n - 1 - i);
         sum += a * b;
-        i += 1;
     }
     let twice = sum + sum;
     if n % 2 == 0 {
         memo[n] = twice;
         return twice;
     }
-    let a = count_memo(memo, half);
+    let a = part_count(memo, half);
     let c = twice + a * a;
     memo[n] = c;
     c
@@ -47,18 +58,17 @@ pub(crate) fn dyck_count(n: usize) -> u64
     count_memo(&mut memo, n)
 }
 
-// C(0), C(1), .., C(n), from an empty memo, to lend along.
+// C(0), C(1), .., C(n), to lend along: the memo, with each worked out.
 pub(crate) fn dyck_counts(n: usize) -> [u64; 37]
     requires { ⌜ n ≤ 36 ⌝ }
     ensures { λ r. ⌜ Table false 0 n r ⌝ }
 {
     let mut memo: [u64; 37] = [0; 37];
-    let mut table: [u64; 37] = [0; 37];
     let mut k = 0;
     while k <= n {
         let c = count_memo(&mut memo, k);
-        table[k] = c;
+        memo[k] = c;
         k += 1;
     }
-    table
+    memo
 }

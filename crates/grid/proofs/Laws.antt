@@ -8,7 +8,7 @@
 --   via-left, via-under, via-in      what a step brings
 --   via-any                          what holds of 0 and of every count before holds of what a step brings
 --   via-none, W-sum                  a step that isn't there brings 0, so the sum over all eight is the count
---   cap-lt, cap-ge, cap-count, cap-over, cell-zero, cell-over, cell-is, cell-value    answers
+--   cap-lt, cap-ge, cap-count, cap-over, count-over, cell-zero, cell-over, cell-is, cell-value    answers
 --   total-done, total-over, total-more, total-wraps    the loop over the steps
 --   put-is                           a cell written
 use mathlib.Core.Path.{_≡_, refl, sym, ap, _∙_}
@@ -118,6 +118,9 @@ cap-count w v e = let p = capBy-count (ltb w (2 ^ 64)) w v e in (p .1, ltb-true 
 pub cap-over : (w : ℕ) → capOf w ≡ Over → 2 ^ 64 ≤ w
 unfolding capOf
 cap-over w e = ltb-false w (2 ^ 64) (capBy-over (ltb w (2 ^ 64)) w e)
+
+pub count-over : {r : Answer} {c : ℕ} → r ≡ Count c → r ≡ Over → ⊥
+count-over e o = let z : _≡_ {A = ℕ} 0 1 = cc in omega arith
 
 pub cell-zero : (v o : ℕ) → o ≡ 0 → cellOf v o ≡ Count v
 unfolding cellOf

@@ -15,3 +15,4 @@ pub mod Counted
 pub mod Tabled
 pub mod Worded
 pub mod Builds
+pub mod Along

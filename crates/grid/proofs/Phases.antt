@@ -172,14 +172,14 @@ module _ {k f : ℕ} {sa sc : List ℕ} {hi m ex ey : ℕ} (val ov : List ℕ) {
   pub flagged-filled : {r : Answer} {p : ℕ} → r ≡ cellAt val ov p → p ≡ place m ey ex ey → Filled k f sa sc hi m ex ey val r
   flagged-filled er ep = record {
     answer = er ∙ ap (cellAt val ov) ep ∙ t .cells .right ex ey (omega arith) (omega arith, omega arith);
-    solid = record { ov = ov; flags = rw e at (t .cells) };
+    solid = λ n. record { ov = ov; flags = rw e at (t .cells) };
   }
 
 module _ {k f : ℕ} {sa sc : List ℕ} {hi m ex ey : ℕ} {val : List ℕ} {x : ℕ} (g : Got k f sa sc hi m ex ey val x) (e : x ≡ ex + 1) where
   pub got-filled : ((j : ℕ) → getD val j 0 < 2 ^ 64) → {v p : ℕ} → v ≡ getD val p 0 → p ≡ place m ey ex ey → Filled k f sa sc hi m ex ey val (Count v)
   got-filled fits {v} {p} ev ep = record {
     answer = sym (cap-lt v (omega (arith, fits p))) ∙ ap capOf (ev ∙ ap (λ (j : ℕ). getD val j 0) ep ∙ g .table .cells .right ex ey (omega arith) (omega arith, omega arith));
-    solid = record { ov = replicate 7040 0; flags = rw e at (resume-cells val (g .table) fits) };
+    solid = λ n. record { ov = replicate 7040 0; flags = rw e at (resume-cells val (g .table) fits) };
   }
 
 module _ {few : Bool} {k f : ℕ} {sa sc off : List ℕ} {hi m ex ey size : ℕ} (r : Prepared few k f sa sc off hi m ex ey size) where

@@ -3,9 +3,10 @@
 --   column-none, column-more, column-at    a run summed as far as i: not at all, one cell more, all of it
 --   Sources4, Sources8                     where the runs start that it is summed from
 --   sum4, sum8                             the sum of a turn is the cell's, and fits
+--   high-le, above-fits                    the bits above 2^61, and their sum
 use mathlib.Core.Path.{_≡_, refl, sym, _∙_}
 use mathlib.Core.List.{List}
-use Prim.Native.Nat.{ℕ, _+_, _^_, _≤_, _<_}
+use Prim.Native.Nat.{ℕ, _+_, _*_, _/_, _^_, _≤_, _<_}
 use native.Mathlib.Omega.{arith}
 use native.Mathlib.Nat.{not-suc-le-zero}
 use lib.ListN.{length, getD, set}
@@ -98,3 +99,9 @@ sum8 {val₀} {val} {sa} {off} {x} {d} {n} {i} {s0} {s1} {s2} {s3} {s4} {s5} {s6
       at 7 s7 (so .is7) (so .end7),
     ) in
     (e, omega (arith, ru .fits i l))
+
+pub high-le : (v : ℕ) → v < 2 ^ 64 → v / 2305843009213693952 ≤ 7
+high-le v l = omega arith
+
+pub above-fits : (a h i : ℕ) → a ≤ 7 * i → h ≤ 7 → i < 2305843009213693952 → a + h < 2 ^ 64
+above-fits a h i l m n = omega arith

@@ -4,15 +4,13 @@
 --   step-empty      a column with no height that matters
 --   run8, run4      a column's run can be summed over all steps, and over the first four
 --   pow8, pow4      after an early column
---   most8, most4    after a later one, whose greatest cell is looked for
+--   seen8, seen4    after a later one, whose cells are looked at
 use mathlib.Core.Path.{_≡_}
 use mathlib.Core.Bool.{Bool, true}
 use mathlib.Core.List.{List}
 use Prim.Native.Nat.{ℕ, _+_, _-_, _*_, _≤_, _<_}
 use native.Mathlib.Omega.{arith}
-use lib.Dec.{leb}
 use lib.ListN.{getD}
-use borrow.Author.Tests.{leb-true}
 use Rattle.grid.specs.Cells.{strideOf, place, Run, Column}
 use Rattle.grid.specs.Table.{From, To, Table}
 use Rattle.grid.specs.Filling.{Before, After}
@@ -47,10 +45,10 @@ module _ {few : Bool} {k f : ℕ} {sa sc off : List ℕ} {hi m ex ey : ℕ} {val
         pub pow8 : x ≤ 20 → After k f sa sc hi m ex ey val′ x true
         pow8 l = record { table = table8; small = λ _. pow-small-8 (b .ready .plan) (b .ready .offs) val (b .table) (b .start) (b .end) l (b .small) }
 
-        pub most8 : (r : ℕ) → ((i : ℕ) → i < to - from → getD val′ (place m ey x from + i) 0 ≤ r) → After k f sa sc hi m ex ey val′ x (leb r 2305843009213693951)
-        most8 r all = record {
+        pub seen8 : (r : Bool) → (r ≡ true → (i : ℕ) → i < to - from → getD val′ (place m ey x from + i) 0 ≤ 2305843009213693951) → After k f sa sc hi m ex ey val′ x r
+        seen8 r all = record {
           table = table8;
-          small = λ e. most-small (b .ready .plan) (b .ready .offs) val (b .table) (b .start) (b .end) from to fr up 8 (omega arith) (omega arith) none-gone lt val′ co r (b .small) all (leb-true r 2305843009213693951 e);
+          small = λ e. most-small (b .ready .plan) (b .ready .offs) val (b .table) (b .start) (b .end) from to fr up 8 (omega arith) (omega arith) none-gone lt val′ co 2305843009213693951 (b .small) (all e) (omega arith);
         }
 
       module _ (e : few ≡ true) {val′ : List ℕ} (co : Column 4 val val′ sa off x (place m ey x from) (to - from)) where
@@ -60,8 +58,8 @@ module _ {few : Bool} {k f : ℕ} {sa sc off : List ℕ} {hi m ex ey : ℕ} {val
         pub pow4 : x ≤ 30 → After k f sa sc hi m ex ey val′ x true
         pow4 l = record { table = table4; small = λ _. pow-small-4 (b .ready .plan) (b .ready .offs) val (b .table) (b .start) (b .end) (b .ready .fewer .gone e) l (b .small) }
 
-        pub most4 : (r : ℕ) → ((i : ℕ) → i < to - from → getD val′ (place m ey x from + i) 0 ≤ r) → After k f sa sc hi m ex ey val′ x (leb r 2305843009213693951)
-        most4 r all = record {
+        pub seen4 : (r : Bool) → (r ≡ true → (i : ℕ) → i < to - from → getD val′ (place m ey x from + i) 0 ≤ 2305843009213693951) → After k f sa sc hi m ex ey val′ x r
+        seen4 r all = record {
           table = table4;
-          small = λ q. most-small (b .ready .plan) (b .ready .offs) val (b .table) (b .start) (b .end) from to fr up 4 (omega arith) (omega arith) (b .ready .fewer .gone e) lt val′ co r (b .small) all (leb-true r 2305843009213693951 q);
+          small = λ q. most-small (b .ready .plan) (b .ready .offs) val (b .table) (b .start) (b .end) from to fr up 4 (omega arith) (omega arith) (b .ready .fewer .gone e) lt val′ co 2305843009213693951 (b .small) (all q) (omega arith);
         }

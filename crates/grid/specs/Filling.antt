@@ -10,13 +10,14 @@
 --   Part       column x filled as far as height y
 --   Parts      what the eight steps bring to cell p, column x, height y, can be read
 --   Solid      with flags beside them all cells that matter are right
---   Filled     a table filled, and the answer for the end
+--   Filled     the answer for the end, and a table filled where it isn't Over
 use mathlib.Core.Path.{_≡_}
 use mathlib.Core.Bool.{Bool, true}
 use mathlib.Core.List.{List}
 use Prim.Native.Nat.{ℕ, _+_, _*_, _≤_, _<_}
 use lib.ListN.{length, getD}
 use Rattle.grid.specs.declared.Answer.{Answer}
+use Rattle.grid.specs.declared.Answer.the-variants.{Over}
 use Rattle.grid.specs.Form.{W, via}
 use Rattle.grid.specs.Cells.{capOf, cellAt, strideOf, place, sourceOf}
 use Rattle.grid.specs.Table.{Ready, Cells, Table, Flagged, Small, From, To}
@@ -77,4 +78,4 @@ pub record Solid (k f : ℕ) (sa sc : List ℕ) (hi m ex ey : ℕ) (val : List �
 
 pub record Filled (k f : ℕ) (sa sc : List ℕ) (hi m ex ey : ℕ) (val : List ℕ) (r : Answer) : Type 0 where
   pub answer : r ≡ capOf (W k f sa sc ex ey)
-  pub solid : Solid k f sa sc hi m ex ey val
+  pub solid : (r ≡ Over → ⊥) → Solid k f sa sc hi m ex ey val

@@ -8,3 +8,4 @@ pub mod Shapes
 pub mod Calls
 pub mod Numbering
 pub mod Spelling
+pub mod Rows

@@ -1,5 +1,6 @@
 // A column of the table summed without a test. Cell (x, y) stands at (x + 1) * stride + m + y: below each column m zeros, before all a column of zeros.
 ghost use mathlib.Core.Path.{_≡_};
+ghost use mathlib.Core.Bool.{true};
 ghost use Prim.Native.Nat.{ℕ, _+_, _≤_, _<_};
 ghost use lib.ListN.{length, getD};
 ghost use Rattle.grid.specs.Cells.{sourceOf, Run, Column};
@@ -69,19 +70,16 @@ pub(crate) fn column4(
     }
 }
 
-// No cell from d to d + n is above the answer.
-pub(crate) fn most(val: &[u64], d: usize, n: usize) -> u64
+// Whether no cell from d to d + n is above 2^61 - 1: the bits above are summed, which needs no comparison a cell.
+pub(crate) fn is_small(val: &[u64], d: usize, n: usize) -> bool
     requires { ⌜ d + n ≤ length (now val) ⌝ }
-    ensures { λ r. ⌜ ((i : ℕ) → i < n → getD (now (val .entry)) (d + i) 0 ≤ r) ⌝ }
+    ensures { λ r. ⌜ (r ≡ true → (i : ℕ) → i < n → getD (now (val .entry)) (d + i) 0 ≤ 2305843009213693951) ⌝ }
 {
-    let mut m: u64 = 0;
+    let mut above: u64 = 0;
     let mut i = 0;
     while i < n {
-        let v = val[d + i];
-        if m < v {
-            m = v;
-        }
+        above += val[d + i] / 2305843009213693952;
         i += 1;
     }
-    m
+    above == 0
 }

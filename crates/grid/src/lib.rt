@@ -15,6 +15,7 @@ mod flags;
 mod heights;
 mod numbering;
 mod plan;
+mod rows;
 mod shape;
 mod spelling;
 mod table;

@@ -5,12 +5,14 @@ ghost use Rattle.grid.specs.Filling.{Begun, Before, After, Got, Resumed,
 use crate::Answer;
 use crate::column::column4;
 use crate::column::column8;
-use crate::column::most;
+use crate::column::is_small;
 use crate::cone::from_at;
 use crate::cone::to_at;
 use crate::flags::cell;
 use crate::flags::put;
 use crate::flags::total;
+use crate::rows::fill_rows;
+use crate::rows::is_corner;
 
 // Column x. Whether the next one can be summed without a test.
 fn step(
@@ -42,13 +44,13 @@ fn step(
         if x <= 30 {
             return true;
         }
-        return most(val, d, n) <= 2305843009213693951;
+        return is_small(val, d, n);
     }
     column8(val, sa, off, x, d, n);
     if x <= 20 {
         return true;
     }
-    most(val, d, n) <= 2305843009213693951
+    is_small(val, d, n)
 }
 
 // Column x, with a test at each sum.
@@ -164,8 +166,8 @@ fn rest(
     cell(val, &ov, (ex + 1) * (m + ey + 1) + m + ey)
 }
 
-// The whole table; the answer is the count at the end.
-pub(crate) fn fill(
+// The whole table column by column; the answer is the count at the end.
+fn fill_columns(
     val: &mut [u64],
     sa: &[usize; 8],
     sc: &[usize; 8],
@@ -188,4 +190,27 @@ pub(crate) fn fill(
     let end = (ex + 1) * (m + ey + 1) + m + ey;
     let v = val[end];
     Answer::Count(v)
+}
+
+// The whole table; the answer is the count at the end.
+pub(crate) fn fill(
+    val: &mut [u64],
+    sa: &[usize; 8],
+    sc: &[usize; 8],
+    off: &[usize; 8],
+    few: bool,
+    k: usize,
+    f: usize,
+    hi: usize,
+    m: usize,
+    ex: usize,
+    ey: usize,
+) -> Answer
+    requires { ⌜ Begun few k f (now sa) (now sc) (now off) hi m ex ey (now val) ⌝ }
+    ensures { λ r. ⌜ Filled k f (now (sa .entry)) (now (sc .entry)) hi m ex ey (now (val .exit)) r ⌝ }
+{
+    if is_corner(sa, sc, k, f, hi, m, ex, ey) {
+        return fill_rows(val, sa, sc, off, few, k, f, hi, m, ex, ey);
+    }
+    fill_columns(val, sa, sc, off, few, k, f, hi, m, ex, ey)
 }

@@ -1,7 +1,7 @@
 -- `grid::numbering::number_in` meets its contract: by the table's answer and the walk. Assumes nothing.
 use mathlib.Core.Path.{sym, _∙_}
 use borrow.Author.Tests.{not-true, not-false}
-use Rattle.grid.proofs.Laws.{cap-count, cap-over}
+use Rattle.grid.proofs.Laws.{cap-count, cap-over, count-over}
 use Rattle.grid.proofs.Phases.{ready-len}
 use Rattle.grid.proofs.Tabled.{table-over, table-not, table-number}
 use borrow.Author.Needs.{needs}
@@ -33,7 +33,7 @@ returns-2 : tie.Need-returns-2
 returns-2 c = table-not _ _ _ _ _ _ _ _ (cap-count _ _ (sym (c .before .before .before .before .before .before .fill .ensures .answer) ∙ c .before .before .enum-told2 .given .1) .1) (sym (c .before .valid .ensures) ∙ not-true _ (c .if1 .taken))
 
 rank-requires : tie.Need-rank-requires
-rank-requires c κs = record { ready = ready-len (c .before .before .before .before .before .before .before .before .before .before .before .pre .0 .ready) (search needs); solid = c .before .before .before .before .before .before .before .fill .ensures .solid; valid = sym (c .before .before .valid .ensures) ∙ not-false _ (c .before .if1 .left); fits = (cap-count _ _ (sym (c .before .before .before .before .before .before .before .fill .ensures .answer) ∙ c .before .before .before .enum-told2 .given .1) .1) }
+rank-requires c κs = record { ready = ready-len (c .before .before .before .before .before .before .before .before .before .before .before .pre .0 .ready) (search needs); solid = c .before .before .before .before .before .before .before .fill .ensures .solid (count-over (c .before .before .before .enum-told2 .given .1)); valid = sym (c .before .before .valid .ensures) ∙ not-false _ (c .before .if1 .left); fits = (cap-count _ _ (sym (c .before .before .before .before .before .before .before .fill .ensures .answer) ∙ c .before .before .before .enum-told2 .given .1) .1) }
 
 same-length-3 : tie.Need-same-length-3
 same-length-3 c = search needs

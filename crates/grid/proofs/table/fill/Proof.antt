@@ -1,67 +1,48 @@
-use native.Mathlib.Omega.{arith}
-use mathlib.Core.Path.{refl}
-use Rattle.grid.proofs.Phases.{ready-len, got-filled}
 use borrow.Author.Needs.{needs}
 use Rattle.grid.proofs.table.fill.Statement.{statement}
 use Rattle.grid.proofs.table.fill.Tie as tie
+use Rattle.grid.proofs.table.fill.Reads as reads
+use Rattle.grid.proofs.table.fill.Lts as lts
+use Rattle.grid.proofs.rows.fill_rows.Reads as fill-rows-reads
+use Rattle.grid.proofs.rows.is_corner.Reads as is-corner-reads
+use Rattle.grid.proofs.table.fill_columns.Reads as fill-columns-reads
 
-fast-requires : tie.Need-fast-requires
-fast-requires c κs = search needs
+-- src/table.rt:212:8
+is-corner-requires : tie.Need-is-corner-requires
+is-corner-requires c κs = search needs
 
-rest-requires : tie.Need-rest-requires
-rest-requires c κs = record { ready = ready-len (c .before .before .before .before .before .before .before .pre .ready) (omega arith); table = c .before .before .before .before .fast .ensures .table; start = c .before .before .before .before .fast .ensures .start; end = c .before .if1 .taken }
+-- src/table.rt:213:9
+fill-rows-requires : tie.Need-fill-rows-requires
+fill-rows-requires c κs = (c .before .before .before .before .pre, c .before .before .is-corner .ensures (c .before .if1 .taken))
 
+-- src/table.rt:213:9
 same-length : tie.Need-same-length
 same-length c = search needs
 
+-- src/table.rt:213:9
 returns : tie.Need-returns
 returns c = search needs
 
-add-end : tie.Need-add-end
-add-end c = search needs
+-- src/table.rt:215:5
+fill-columns-requires : tie.Need-fill-columns-requires
+fill-columns-requires c κs = search needs
 
-add-end-2 : tie.Need-add-end-2
-add-end-2 c = search needs
-
-add-end-3 : tie.Need-add-end-3
-add-end-3 c = search needs
-
-mul-end : tie.Need-mul-end
-mul-end c = search needs
-
-add-end-4 : tie.Need-add-end-4
-add-end-4 c = search needs
-
-add-end-5 : tie.Need-add-end-5
-add-end-5 c = search needs
-
-mul-v : tie.Need-mul-v
-mul-v c = search needs
-
-slice-read-v : tie.Need-slice-read-v
-slice-read-v c = search needs
-
+-- src/table.rt:196:1
 same-length-2 : tie.Need-same-length-2
 same-length-2 c = search needs
 
+-- src/table.rt:196:1
 returns-2 : tie.Need-returns-2
-returns-2 c = got-filled (c .before .before .before .before .fast .ensures) (omega arith) (λ j. omega (arith, c .before .before .slice-known2 .given j)) refl (omega arith)
+returns-2 c = search needs
 
 pub fill-spec : {M : Type 1} → statement M
 fill-spec =
     tie.close
     (tie.spec
-    fast-requires
-    rest-requires
+    is-corner-requires
+    fill-rows-requires
     same-length
     returns
-    add-end
-    add-end-2
-    add-end-3
-    mul-end
-    add-end-4
-    add-end-5
-    mul-v
-    slice-read-v
+    fill-columns-requires
     same-length-2
     returns-2)

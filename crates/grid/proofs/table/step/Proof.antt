@@ -1,5 +1,5 @@
 use native.Mathlib.Omega.{arith}
-use Rattle.grid.proofs.Turns.{wide-enough, step-empty, run4, run8, pow4, pow8, most4, most8}
+use Rattle.grid.proofs.Turns.{wide-enough, step-empty, run4, run8, pow4, pow8, seen4, seen8}
 use borrow.Author.Needs.{needs}
 use Rattle.grid.proofs.table.step.Statement.{statement}
 use Rattle.grid.proofs.table.step.Tie as tie
@@ -43,14 +43,14 @@ same-length c = search needs
 returns-2 : tie.Need-returns-2
 returns-2 c = pow4 (c .before .before .before .before .before .before .before .before .before .before .pre) (c .before .before .before .before .before .before .before .before .from-at .ensures) (c .before .before .before .before .before .before .before .to-at .ensures) (c .before .before .before .before .before .before .if1 .left) (c .before .before .before .before .before .if2 .taken) (c .before .before .before .column4 .ensures) (c .if3 .taken)
 
-most-requires : tie.Need-most-requires
-most-requires c κs = omega (arith, run4 (c .before .before .before .before .before .before .before .before .before .before .before .pre) (c .before .before .before .before .before .before .before .before .before .from-at .ensures) (c .before .before .before .before .before .before .before .before .to-at .ensures) (c .before .before .before .before .before .before .before .if1 .left) (c .before .before .before .before .before .before .if2 .taken) .inside)
+is-small-requires : tie.Need-is-small-requires
+is-small-requires c κs = omega (arith, run4 (c .before .before .before .before .before .before .before .before .before .before .before .pre) (c .before .before .before .before .before .before .before .before .before .from-at .ensures) (c .before .before .before .before .before .before .before .before .to-at .ensures) (c .before .before .before .before .before .before .before .if1 .left) (c .before .before .before .before .before .before .if2 .taken) .inside)
 
 same-length-2 : tie.Need-same-length-2
 same-length-2 c = search needs
 
 returns-3 : tie.Need-returns-3
-returns-3 c = most4 (c .before .before .before .before .before .before .before .before .before .before .before .before .pre) (c .before .before .before .before .before .before .before .before .before .before .from-at .ensures) (c .before .before .before .before .before .before .before .before .before .to-at .ensures) (c .before .before .before .before .before .before .before .before .if1 .left) (c .before .before .before .before .before .before .before .if2 .taken) (c .before .before .before .before .before .column4 .ensures) _ (c .most .ensures)
+returns-3 c = seen4 (c .before .before .before .before .before .before .before .before .before .before .before .before .pre) (c .before .before .before .before .before .before .before .before .before .before .from-at .ensures) (c .before .before .before .before .before .before .before .before .before .to-at .ensures) (c .before .before .before .before .before .before .before .before .if1 .left) (c .before .before .before .before .before .before .before .if2 .taken) (c .before .before .before .before .before .column4 .ensures) _ (c .is-small .ensures)
 
 column8-requires : tie.Need-column8-requires
 column8-requires c κs = run8 (c .before .before .before .before .before .before .pre) (c .before .before .before .before .from-at .ensures) (c .before .before .before .to-at .ensures) (c .before .before .if1 .left)
@@ -61,14 +61,14 @@ same-length-3 c = search needs
 returns-4 : tie.Need-returns-4
 returns-4 c = pow8 (c .before .before .before .before .before .before .before .before .before .before .pre) (c .before .before .before .before .before .before .before .before .from-at .ensures) (c .before .before .before .before .before .before .before .to-at .ensures) (c .before .before .before .before .before .before .if1 .left) (c .before .before .before .column8 .ensures) (c .if4 .taken)
 
-most-requires-2 : tie.Need-most-requires-2
-most-requires-2 c κs = omega (arith, run8 (c .before .before .before .before .before .before .before .before .before .before .before .pre) (c .before .before .before .before .before .before .before .before .before .from-at .ensures) (c .before .before .before .before .before .before .before .before .to-at .ensures) (c .before .before .before .before .before .before .before .if1 .left) .inside)
+is-small-requires-2 : tie.Need-is-small-requires-2
+is-small-requires-2 c κs = omega (arith, run8 (c .before .before .before .before .before .before .before .before .before .before .before .pre) (c .before .before .before .before .before .before .before .before .before .from-at .ensures) (c .before .before .before .before .before .before .before .before .to-at .ensures) (c .before .before .before .before .before .before .before .if1 .left) .inside)
 
 same-length-4 : tie.Need-same-length-4
 same-length-4 c = search needs
 
 returns-5 : tie.Need-returns-5
-returns-5 c = most8 (c .before .before .before .before .before .before .before .before .before .before .before .before .pre) (c .before .before .before .before .before .before .before .before .before .before .from-at .ensures) (c .before .before .before .before .before .before .before .before .before .to-at .ensures) (c .before .before .before .before .before .before .before .before .if1 .left) (c .before .before .before .before .before .column8 .ensures) _ (c .most2 .ensures)
+returns-5 c = seen8 (c .before .before .before .before .before .before .before .before .before .before .before .before .pre) (c .before .before .before .before .before .before .before .before .before .before .from-at .ensures) (c .before .before .before .before .before .before .before .before .before .to-at .ensures) (c .before .before .before .before .before .before .before .before .if1 .left) (c .before .before .before .before .before .column8 .ensures) _ (c .is-small2 .ensures)
 
 pub step-spec : {M : Type 1} → statement M
 step-spec =
@@ -87,12 +87,12 @@ step-spec =
     column4-requires
     same-length
     returns-2
-    most-requires
+    is-small-requires
     same-length-2
     returns-3
     column8-requires
     same-length-3
     returns-4
-    most-requires-2
+    is-small-requires-2
     same-length-4
     returns-5)

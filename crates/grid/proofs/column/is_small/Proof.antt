@@ -1,0 +1,69 @@
+use Prim.Native.Nat.{ℕ, _+_, _*_, _-_, _≤_, _<_}
+use mathlib.Core.Path.{_≡_}
+use native.Mathlib.Omega.{arith}
+use native.Mathlib.Nat.{not-suc-le-zero}
+use lib.ListN.{getD}
+use borrow.Author.Count.{below-more}
+use borrow.Author.Needs.{needs}
+use borrow.Author.Tests.{eqb-true}
+use Rattle.grid.proofs.Sums.{high-le, above-fits}
+use Rattle.grid.proofs.column.is_small.Statement.{statement}
+use Rattle.grid.proofs.column.is_small.Tie as tie
+
+abbrev Inv-loop : tie.InvT-loop
+Inv-loop val d n above₀ i₀ above i = (i ≤ n) × (above ≤ 7 * i) × (above ≡ 0 → (k : ℕ) → k < i → getD val (d + k) 0 ≤ 2305843009213693951)
+
+abbrev μ-loop : tie.MeasureT-loop
+μ-loop val d n above₀ i₀ above i = n - i
+
+loop-holds : tie.Need-loop-holds Inv-loop μ-loop
+loop-holds c = (omega arith, omega arith, λ e k l. absurd (not-suc-le-zero l))
+
+add-above : tie.Need-add-above Inv-loop μ-loop
+add-above c = search needs
+
+mul-above : tie.Need-mul-above Inv-loop μ-loop
+mul-above c = search needs
+
+shared-slice-read-above : tie.Need-shared-slice-read-above Inv-loop μ-loop
+shared-slice-read-above c = search needs
+
+add-above-2 : tie.Need-add-above-2 Inv-loop μ-loop
+add-above-2 c =
+    record {
+      fits = above-fits _ _ (c .before .before .loop .i) (c .before .before .loop .inv .1)
+          (high-le _ (omega (arith, c .shared-slice-known .given (c .before .before .before .args .d + c .before .before .loop .i)))) (omega arith);
+    }
+
+add-i : tie.Need-add-i Inv-loop μ-loop
+add-i c = search needs
+
+loop-less : tie.Need-loop-less Inv-loop μ-loop
+loop-less c = search needs
+
+loop-again : tie.Need-loop-again Inv-loop μ-loop
+loop-again c =
+    let v = c .shared-slice-known .given (c .before .before .before .args .d + c .before .before .loop .i) in (
+      omega (arith, c .before .loop-test .taken),
+      omega (arith, c .before .before .loop .inv .1, v),
+      λ e. below-more (λ k. getD (c .before .before .before .args .val .now) (c .before .before .before .args .d + k) 0 ≤ 2305843009213693951) _ (c .before .before .loop .inv .2 (omega arith)) (omega arith),
+    )
+
+returns : tie.Need-returns Inv-loop μ-loop
+returns c = λ e i l. c .before .loop .inv .2 (eqb-true _ 0 e) i (omega (arith, c .loop-test .left))
+
+pub is-small-spec : {M : Type 1} → statement M
+is-small-spec =
+    tie.close
+    (tie.spec
+    Inv-loop
+    μ-loop
+    loop-holds
+    add-above
+    mul-above
+    shared-slice-read-above
+    add-above-2
+    add-i
+    loop-less
+    loop-again
+    returns)

@@ -1,0 +1,67 @@
+use native.Mathlib.Omega.{arith}
+use mathlib.Core.Path.{refl}
+use Rattle.grid.proofs.Phases.{ready-len, got-filled}
+use borrow.Author.Needs.{needs}
+use Rattle.grid.proofs.table.fill_columns.Statement.{statement}
+use Rattle.grid.proofs.table.fill_columns.Tie as tie
+
+fast-requires : tie.Need-fast-requires
+fast-requires c κs = search needs
+
+rest-requires : tie.Need-rest-requires
+rest-requires c κs = record { ready = ready-len (c .before .before .before .before .before .before .before .pre .ready) (omega arith); table = c .before .before .before .before .fast .ensures .table; start = c .before .before .before .before .fast .ensures .start; end = c .before .if1 .taken }
+
+same-length : tie.Need-same-length
+same-length c = search needs
+
+returns : tie.Need-returns
+returns c = search needs
+
+add-end : tie.Need-add-end
+add-end c = search needs
+
+add-end-2 : tie.Need-add-end-2
+add-end-2 c = search needs
+
+add-end-3 : tie.Need-add-end-3
+add-end-3 c = search needs
+
+mul-end : tie.Need-mul-end
+mul-end c = search needs
+
+add-end-4 : tie.Need-add-end-4
+add-end-4 c = search needs
+
+add-end-5 : tie.Need-add-end-5
+add-end-5 c = search needs
+
+mul-v : tie.Need-mul-v
+mul-v c = search needs
+
+slice-read-v : tie.Need-slice-read-v
+slice-read-v c = search needs
+
+same-length-2 : tie.Need-same-length-2
+same-length-2 c = search needs
+
+returns-2 : tie.Need-returns-2
+returns-2 c = got-filled (c .before .before .before .before .fast .ensures) (omega arith) (λ j. omega (arith, c .before .before .slice-known2 .given j)) refl (omega arith)
+
+pub fill-columns-spec : {M : Type 1} → statement M
+fill-columns-spec =
+    tie.close
+    (tie.spec
+    fast-requires
+    rest-requires
+    same-length
+    returns
+    add-end
+    add-end-2
+    add-end-3
+    mul-end
+    add-end-4
+    add-end-5
+    mul-v
+    slice-read-v
+    same-length-2
+    returns-2)

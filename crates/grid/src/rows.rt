@@ -1,0 +1,185 @@
+// The table of families 1 and 3, and of whatever has their steps, filled row by row: along a row each cell is the one before it and what
+// the row below brings. No count before the end is above the end's, so the first that needs more than 64 bits ends the work.
+ghost use mathlib.Core.Path.{_≡_};
+ghost use mathlib.Core.Bool.{true};
+ghost use Prim.Native.Nat.{_+_, _-_, _<_, _≤_};
+ghost use lib.Dec.{eqb};
+ghost use lib.ListN.{length, getD};
+ghost use Rattle.howmany.specs.Choose.{pick};
+ghost use Rattle.grid.specs.Filling.{Begun, Filled};
+ghost use Rattle.grid.specs.Rows.{Rises, Cornered, Rowing, Rowed, Risen};
+use crate::Answer;
+
+// Whether one of two steps goes up by one, and the other doesn't.
+fn rises(a: usize, b: usize) -> bool
+    ensures { λ r. ⌜ (r ≡ true → Rises a b) ⌝ }
+{
+    if a == 1 {
+        return b == 0;
+    }
+    if a != 0 {
+        return false;
+    }
+    b == 1
+}
+
+// Whether the steps are those of families 1 and 3, and the end can be reached by them.
+pub(crate) fn is_corner(
+    sa: &[usize; 8],
+    sc: &[usize; 8],
+    k: usize,
+    f: usize,
+    hi: usize,
+    m: usize,
+    ex: usize,
+    ey: usize,
+) -> bool
+    ensures { λ r. ⌜ (r ≡ true → Cornered k f (now (sa .entry)) (now (sc .entry)) hi m ex ey) ⌝ }
+{
+    if hi != 6 {
+        return false;
+    }
+    if m != 1 {
+        return false;
+    }
+    if f != 0 {
+        return false;
+    }
+    if ex < ey {
+        return false;
+    }
+    if sa[0] != 1 {
+        return false;
+    }
+    if sa[1] != 1 {
+        return false;
+    }
+    if !rises(sc[0], sc[1]) {
+        return false;
+    }
+    if k == 2 {
+        return true;
+    }
+    if k != 3 {
+        return false;
+    }
+    if sa[2] != 2 {
+        return false;
+    }
+    sc[2] == 1
+}
+
+// The first cell of row y, which is at p: the one before it on the diagonal.
+fn first(val: &[u64], stride: usize, y: usize, p: usize) -> u64
+    requires { ⌜ (stride < p) × (p - stride - 1 < length (now val)) ⌝ }
+    ensures { λ r. ⌜ r ≡ pick (eqb y 0) 1 (getD (now (val .entry)) (p - stride - 1) 0) ⌝ }
+{
+    if y == 0 {
+        return 1;
+    }
+    val[p - stride - 1]
+}
+
+// What the third step, if it is there, brings to the cell after p.
+fn across(val: &[u64], three: bool, stride: usize, p: usize) -> u64
+    requires { ⌜ (stride < p) × (p - stride - 1 < length (now val)) ⌝ }
+    ensures { λ r. ⌜ r ≡ pick three (getD (now (val .entry)) (p - stride - 1) 0) 0 ⌝ }
+{
+    if three { val[p - stride - 1] } else { 0 }
+}
+
+// Row y, from column y on: whether all its counts fit 64 bits.
+fn row(
+    val: &mut [u64],
+    sa: &[usize; 8],
+    sc: &[usize; 8],
+    off: &[usize; 8],
+    three: bool,
+    few: bool,
+    k: usize,
+    f: usize,
+    hi: usize,
+    m: usize,
+    ex: usize,
+    ey: usize,
+    y: usize,
+) -> bool
+    requires { ⌜ Rowing three few k f (now sa) (now sc) (now off) hi m ex ey (now val) y ⌝ }
+    ensures { λ r. ⌜ Rowed k f (now (sa .entry)) (now (sc .entry)) m ex ey (now (val .exit)) y r ⌝ }
+{
+    let stride = m + ey + 1;
+    let n = ex - ey;
+    let mut p = (y + 1) * stride + m + y;
+    let mut sum = first(val, stride, y, p);
+    val[p] = sum;
+    let mut i = 0;
+    while i < n {
+        let a = val[p - 1];
+        let b = across(val, three, stride, p);
+        if 18446744073709551615 - sum < a {
+            return false;
+        }
+        sum += a;
+        if 18446744073709551615 - sum < b {
+            return false;
+        }
+        sum += b;
+        p += stride;
+        val[p] = sum;
+        i += 1;
+    }
+    true
+}
+
+// All rows: whether the count at the end fits 64 bits.
+fn all_rows(
+    val: &mut [u64],
+    sa: &[usize; 8],
+    sc: &[usize; 8],
+    off: &[usize; 8],
+    few: bool,
+    k: usize,
+    f: usize,
+    hi: usize,
+    m: usize,
+    ex: usize,
+    ey: usize,
+) -> bool
+    requires { ⌜ Begun few k f (now sa) (now sc) (now off) hi m ex ey (now val) × Cornered k f (now sa) (now sc) hi m ex ey ⌝ }
+    ensures { λ r. ⌜ Risen k f (now (sa .entry)) (now (sc .entry)) hi m ex ey (now (val .exit)) r ⌝ }
+{
+    let three = k == 3;
+    let mut y = 0;
+    while y <= ey {
+        if !row(val, sa, sc, off, three, few, k, f, hi, m, ex, ey, y) {
+            return false;
+        }
+        y += 1;
+    }
+    true
+}
+
+// The whole table; the answer is the count at the end.
+pub(crate) fn fill_rows(
+    val: &mut [u64],
+    sa: &[usize; 8],
+    sc: &[usize; 8],
+    off: &[usize; 8],
+    few: bool,
+    k: usize,
+    f: usize,
+    hi: usize,
+    m: usize,
+    ex: usize,
+    ey: usize,
+) -> Answer
+    requires { ⌜ Begun few k f (now sa) (now sc) (now off) hi m ex ey (now val) × Cornered k f (now sa) (now sc) hi m ex ey ⌝ }
+    ensures { λ r. ⌜ Filled k f (now (sa .entry)) (now (sc .entry)) hi m ex ey (now (val .exit)) r ⌝ }
+{
+    if !all_rows(val, sa, sc, off, few, k, f, hi, m, ex, ey) {
+        return Answer::Over;
+    }
+    let end = (ex + 1) * (m + ey + 1) + m + ey;
+    let v = val[end];
+    Answer::Count(v)
+}
