@@ -1,4 +1,4 @@
-// The count, in a table of the smallest of six sizes that has room: clearing the largest takes as long as filling a small one.
+// The count, in a table of the smallest of five sizes that has room: clearing the largest takes as long as filling a small one.
 ghost use mathlib.Core.Path.{_≡_};
 ghost use Rattle.grid.specs.Form.{Form, W};
 ghost use Rattle.grid.specs.Cells.{capOf};
@@ -10,7 +10,7 @@ use crate::plan::offsets;
 use crate::plan::steepest;
 use crate::table::fill;
 
-fn count_1024(
+fn count_384(
     sa: &[usize; 8],
     sc: &[usize; 8],
     off: &[usize; 8],
@@ -22,14 +22,14 @@ fn count_1024(
     ex: usize,
     ey: usize,
 ) -> Answer
-    requires { ⌜ Prepared few k f (now sa) (now sc) (now off) hi m ex ey 1024 ⌝ }
+    requires { ⌜ Prepared few k f (now sa) (now sc) (now off) hi m ex ey 384 ⌝ }
     ensures { λ r. ⌜ r ≡ capOf (W k f (now (sa .entry)) (now (sc .entry)) ex ey) ⌝ }
 {
-    let mut val = [0u64; 1024];
+    let mut val = [0u64; 384];
     fill(&mut val, sa, sc, off, few, k, f, hi, m, ex, ey)
 }
 
-fn count_2048(
+fn count_1280(
     sa: &[usize; 8],
     sc: &[usize; 8],
     off: &[usize; 8],
@@ -41,14 +41,14 @@ fn count_2048(
     ex: usize,
     ey: usize,
 ) -> Answer
-    requires { ⌜ Prepared few k f (now sa) (now sc) (now off) hi m ex ey 2048 ⌝ }
+    requires { ⌜ Prepared few k f (now sa) (now sc) (now off) hi m ex ey 1280 ⌝ }
     ensures { λ r. ⌜ r ≡ capOf (W k f (now (sa .entry)) (now (sc .entry)) ex ey) ⌝ }
 {
-    let mut val = [0u64; 2048];
+    let mut val = [0u64; 1280];
     fill(&mut val, sa, sc, off, few, k, f, hi, m, ex, ey)
 }
 
-fn count_3072(
+fn count_2496(
     sa: &[usize; 8],
     sc: &[usize; 8],
     off: &[usize; 8],
@@ -60,14 +60,14 @@ fn count_3072(
     ex: usize,
     ey: usize,
 ) -> Answer
-    requires { ⌜ Prepared few k f (now sa) (now sc) (now off) hi m ex ey 3072 ⌝ }
+    requires { ⌜ Prepared few k f (now sa) (now sc) (now off) hi m ex ey 2496 ⌝ }
     ensures { λ r. ⌜ r ≡ capOf (W k f (now (sa .entry)) (now (sc .entry)) ex ey) ⌝ }
 {
-    let mut val = [0u64; 3072];
+    let mut val = [0u64; 2496];
     fill(&mut val, sa, sc, off, few, k, f, hi, m, ex, ey)
 }
 
-fn count_4096(
+fn count_3712(
     sa: &[usize; 8],
     sc: &[usize; 8],
     off: &[usize; 8],
@@ -79,29 +79,10 @@ fn count_4096(
     ex: usize,
     ey: usize,
 ) -> Answer
-    requires { ⌜ Prepared few k f (now sa) (now sc) (now off) hi m ex ey 4096 ⌝ }
+    requires { ⌜ Prepared few k f (now sa) (now sc) (now off) hi m ex ey 3712 ⌝ }
     ensures { λ r. ⌜ r ≡ capOf (W k f (now (sa .entry)) (now (sc .entry)) ex ey) ⌝ }
 {
-    let mut val = [0u64; 4096];
-    fill(&mut val, sa, sc, off, few, k, f, hi, m, ex, ey)
-}
-
-fn count_5632(
-    sa: &[usize; 8],
-    sc: &[usize; 8],
-    off: &[usize; 8],
-    few: bool,
-    k: usize,
-    f: usize,
-    hi: usize,
-    m: usize,
-    ex: usize,
-    ey: usize,
-) -> Answer
-    requires { ⌜ Prepared few k f (now sa) (now sc) (now off) hi m ex ey 5632 ⌝ }
-    ensures { λ r. ⌜ r ≡ capOf (W k f (now (sa .entry)) (now (sc .entry)) ex ey) ⌝ }
-{
-    let mut val = [0u64; 5632];
+    let mut val = [0u64; 3712];
     fill(&mut val, sa, sc, off, few, k, f, hi, m, ex, ey)
 }
 
@@ -143,20 +124,17 @@ pub(crate) fn count(
     let stride = m + ey + 1;
     let off = offsets(sa, sc, k, f, top, ex, ey, stride);
     let cells = (ex + 2) * stride;
-    if cells <= 1024 {
-        return count_1024(sa, sc, &off, few, k, f, hi, m, ex, ey);
+    if cells <= 384 {
+        return count_384(sa, sc, &off, few, k, f, hi, m, ex, ey);
     }
-    if cells <= 2048 {
-        return count_2048(sa, sc, &off, few, k, f, hi, m, ex, ey);
+    if cells <= 1280 {
+        return count_1280(sa, sc, &off, few, k, f, hi, m, ex, ey);
     }
-    if cells <= 3072 {
-        return count_3072(sa, sc, &off, few, k, f, hi, m, ex, ey);
+    if cells <= 2496 {
+        return count_2496(sa, sc, &off, few, k, f, hi, m, ex, ey);
     }
-    if cells <= 4096 {
-        return count_4096(sa, sc, &off, few, k, f, hi, m, ex, ey);
-    }
-    if cells <= 5632 {
-        return count_5632(sa, sc, &off, few, k, f, hi, m, ex, ey);
+    if cells <= 3712 {
+        return count_3712(sa, sc, &off, few, k, f, hi, m, ex, ey);
     }
     count_7040(sa, sc, &off, few, k, f, hi, m, ex, ey)
 }

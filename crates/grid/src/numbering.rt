@@ -44,7 +44,7 @@ fn number_in(
     Numbered::Number(rank(val, sa, sc, off, few, k, f, hi, m, ex, ey, corner, edge))
 }
 
-fn number_1024(
+fn number_384(
     sa: &[usize; 8],
     sc: &[usize; 8],
     off: &[usize; 8],
@@ -59,10 +59,10 @@ fn number_1024(
     corner: bool,
     edge: &[u8],
 ) -> Numbered
-    requires { ⌜ Prepared few k f (now sa) (now sc) (now off) hi m ex ey 1024 × Form k f (now sa) (now sc) top ex ey ⌝ }
+    requires { ⌜ Prepared few k f (now sa) (now sc) (now off) hi m ex ey 384 × Form k f (now sa) (now sc) top ex ey ⌝ }
     ensures { λ r. ⌜ numberSays r ≡ reply (tableNumber corner k f (now (sa .entry)) (now (sc .entry)) ex ey (now (edge .entry))) ⌝ }
 {
-    let mut val = [0u64; 1024];
+    let mut val = [0u64; 384];
     number_in(
         &mut val,
         sa,
@@ -81,7 +81,7 @@ fn number_1024(
     )
 }
 
-fn number_2048(
+fn number_1280(
     sa: &[usize; 8],
     sc: &[usize; 8],
     off: &[usize; 8],
@@ -96,10 +96,10 @@ fn number_2048(
     corner: bool,
     edge: &[u8],
 ) -> Numbered
-    requires { ⌜ Prepared few k f (now sa) (now sc) (now off) hi m ex ey 2048 × Form k f (now sa) (now sc) top ex ey ⌝ }
+    requires { ⌜ Prepared few k f (now sa) (now sc) (now off) hi m ex ey 1280 × Form k f (now sa) (now sc) top ex ey ⌝ }
     ensures { λ r. ⌜ numberSays r ≡ reply (tableNumber corner k f (now (sa .entry)) (now (sc .entry)) ex ey (now (edge .entry))) ⌝ }
 {
-    let mut val = [0u64; 2048];
+    let mut val = [0u64; 1280];
     number_in(
         &mut val,
         sa,
@@ -118,7 +118,7 @@ fn number_2048(
     )
 }
 
-fn number_3072(
+fn number_2496(
     sa: &[usize; 8],
     sc: &[usize; 8],
     off: &[usize; 8],
@@ -133,10 +133,10 @@ fn number_3072(
     corner: bool,
     edge: &[u8],
 ) -> Numbered
-    requires { ⌜ Prepared few k f (now sa) (now sc) (now off) hi m ex ey 3072 × Form k f (now sa) (now sc) top ex ey ⌝ }
+    requires { ⌜ Prepared few k f (now sa) (now sc) (now off) hi m ex ey 2496 × Form k f (now sa) (now sc) top ex ey ⌝ }
     ensures { λ r. ⌜ numberSays r ≡ reply (tableNumber corner k f (now (sa .entry)) (now (sc .entry)) ex ey (now (edge .entry))) ⌝ }
 {
-    let mut val = [0u64; 3072];
+    let mut val = [0u64; 2496];
     number_in(
         &mut val,
         sa,
@@ -155,7 +155,7 @@ fn number_3072(
     )
 }
 
-fn number_4096(
+fn number_3712(
     sa: &[usize; 8],
     sc: &[usize; 8],
     off: &[usize; 8],
@@ -170,47 +170,10 @@ fn number_4096(
     corner: bool,
     edge: &[u8],
 ) -> Numbered
-    requires { ⌜ Prepared few k f (now sa) (now sc) (now off) hi m ex ey 4096 × Form k f (now sa) (now sc) top ex ey ⌝ }
+    requires { ⌜ Prepared few k f (now sa) (now sc) (now off) hi m ex ey 3712 × Form k f (now sa) (now sc) top ex ey ⌝ }
     ensures { λ r. ⌜ numberSays r ≡ reply (tableNumber corner k f (now (sa .entry)) (now (sc .entry)) ex ey (now (edge .entry))) ⌝ }
 {
-    let mut val = [0u64; 4096];
-    number_in(
-        &mut val,
-        sa,
-        sc,
-        off,
-        few,
-        k,
-        f,
-        top,
-        hi,
-        m,
-        ex,
-        ey,
-        corner,
-        edge,
-    )
-}
-
-fn number_5632(
-    sa: &[usize; 8],
-    sc: &[usize; 8],
-    off: &[usize; 8],
-    few: bool,
-    k: usize,
-    f: usize,
-    top: usize,
-    hi: usize,
-    m: usize,
-    ex: usize,
-    ey: usize,
-    corner: bool,
-    edge: &[u8],
-) -> Numbered
-    requires { ⌜ Prepared few k f (now sa) (now sc) (now off) hi m ex ey 5632 × Form k f (now sa) (now sc) top ex ey ⌝ }
-    ensures { λ r. ⌜ numberSays r ≡ reply (tableNumber corner k f (now (sa .entry)) (now (sc .entry)) ex ey (now (edge .entry))) ⌝ }
-{
-    let mut val = [0u64; 5632];
+    let mut val = [0u64; 3712];
     number_in(
         &mut val,
         sa,
@@ -266,7 +229,7 @@ fn number_7040(
     )
 }
 
-// The number of the edge, in a table of the smallest of six sizes that has room.
+// The number of the edge, in a table of the smallest of five sizes that has room.
 pub(crate) fn number(
     sa: &[usize; 8],
     sc: &[usize; 8],
@@ -287,20 +250,17 @@ pub(crate) fn number(
     let stride = m + ey + 1;
     let off = offsets(sa, sc, k, f, top, ex, ey, stride);
     let cells = (ex + 2) * stride;
-    if cells <= 1024 {
-        return number_1024(sa, sc, &off, few, k, f, top, hi, m, ex, ey, corner, edge);
+    if cells <= 384 {
+        return number_384(sa, sc, &off, few, k, f, top, hi, m, ex, ey, corner, edge);
     }
-    if cells <= 2048 {
-        return number_2048(sa, sc, &off, few, k, f, top, hi, m, ex, ey, corner, edge);
+    if cells <= 1280 {
+        return number_1280(sa, sc, &off, few, k, f, top, hi, m, ex, ey, corner, edge);
     }
-    if cells <= 3072 {
-        return number_3072(sa, sc, &off, few, k, f, top, hi, m, ex, ey, corner, edge);
+    if cells <= 2496 {
+        return number_2496(sa, sc, &off, few, k, f, top, hi, m, ex, ey, corner, edge);
     }
-    if cells <= 4096 {
-        return number_4096(sa, sc, &off, few, k, f, top, hi, m, ex, ey, corner, edge);
-    }
-    if cells <= 5632 {
-        return number_5632(sa, sc, &off, few, k, f, top, hi, m, ex, ey, corner, edge);
+    if cells <= 3712 {
+        return number_3712(sa, sc, &off, few, k, f, top, hi, m, ex, ey, corner, edge);
     }
     number_7040(sa, sc, &off, few, k, f, top, hi, m, ex, ey, corner, edge)
 }

@@ -153,7 +153,7 @@ fn spell_in(
     Built::Length(at)
 }
 
-fn spell_1024(
+fn spell_384(
     sa: &[usize; 8],
     sc: &[usize; 8],
     off: &[usize; 8],
@@ -169,10 +169,10 @@ fn spell_1024(
     steps: &mut [u8],
     ends: &mut [usize],
 ) -> Built
-    requires { ⌜ Prepared few k f (now sa) (now sc) (now off) hi m ex ey 1024 × Room (length (now numbers)) (length (now steps)) (length (now ends)) ⌝ }
+    requires { ⌜ Prepared few k f (now sa) (now sc) (now off) hi m ex ey 384 × Room (length (now numbers)) (length (now steps)) (length (now ends)) ⌝ }
     ensures { λ r. ⌜ LinedAs (lined (edgesFor corner k f (now (sa .entry)) (now (sc .entry)) ex ey (now (numbers .entry))) (now (steps .entry)) (now (ends .entry))) r (now (steps .exit)) (now (ends .exit)) ⌝ }
 {
-    let mut val = [0u64; 1024];
+    let mut val = [0u64; 384];
     spell_in(
         &mut val,
         sa,
@@ -192,7 +192,7 @@ fn spell_1024(
     )
 }
 
-fn spell_2048(
+fn spell_1280(
     sa: &[usize; 8],
     sc: &[usize; 8],
     off: &[usize; 8],
@@ -208,10 +208,10 @@ fn spell_2048(
     steps: &mut [u8],
     ends: &mut [usize],
 ) -> Built
-    requires { ⌜ Prepared few k f (now sa) (now sc) (now off) hi m ex ey 2048 × Room (length (now numbers)) (length (now steps)) (length (now ends)) ⌝ }
+    requires { ⌜ Prepared few k f (now sa) (now sc) (now off) hi m ex ey 1280 × Room (length (now numbers)) (length (now steps)) (length (now ends)) ⌝ }
     ensures { λ r. ⌜ LinedAs (lined (edgesFor corner k f (now (sa .entry)) (now (sc .entry)) ex ey (now (numbers .entry))) (now (steps .entry)) (now (ends .entry))) r (now (steps .exit)) (now (ends .exit)) ⌝ }
 {
-    let mut val = [0u64; 2048];
+    let mut val = [0u64; 1280];
     spell_in(
         &mut val,
         sa,
@@ -231,7 +231,7 @@ fn spell_2048(
     )
 }
 
-fn spell_3072(
+fn spell_2496(
     sa: &[usize; 8],
     sc: &[usize; 8],
     off: &[usize; 8],
@@ -247,10 +247,10 @@ fn spell_3072(
     steps: &mut [u8],
     ends: &mut [usize],
 ) -> Built
-    requires { ⌜ Prepared few k f (now sa) (now sc) (now off) hi m ex ey 3072 × Room (length (now numbers)) (length (now steps)) (length (now ends)) ⌝ }
+    requires { ⌜ Prepared few k f (now sa) (now sc) (now off) hi m ex ey 2496 × Room (length (now numbers)) (length (now steps)) (length (now ends)) ⌝ }
     ensures { λ r. ⌜ LinedAs (lined (edgesFor corner k f (now (sa .entry)) (now (sc .entry)) ex ey (now (numbers .entry))) (now (steps .entry)) (now (ends .entry))) r (now (steps .exit)) (now (ends .exit)) ⌝ }
 {
-    let mut val = [0u64; 3072];
+    let mut val = [0u64; 2496];
     spell_in(
         &mut val,
         sa,
@@ -270,7 +270,7 @@ fn spell_3072(
     )
 }
 
-fn spell_4096(
+fn spell_3712(
     sa: &[usize; 8],
     sc: &[usize; 8],
     off: &[usize; 8],
@@ -286,49 +286,10 @@ fn spell_4096(
     steps: &mut [u8],
     ends: &mut [usize],
 ) -> Built
-    requires { ⌜ Prepared few k f (now sa) (now sc) (now off) hi m ex ey 4096 × Room (length (now numbers)) (length (now steps)) (length (now ends)) ⌝ }
+    requires { ⌜ Prepared few k f (now sa) (now sc) (now off) hi m ex ey 3712 × Room (length (now numbers)) (length (now steps)) (length (now ends)) ⌝ }
     ensures { λ r. ⌜ LinedAs (lined (edgesFor corner k f (now (sa .entry)) (now (sc .entry)) ex ey (now (numbers .entry))) (now (steps .entry)) (now (ends .entry))) r (now (steps .exit)) (now (ends .exit)) ⌝ }
 {
-    let mut val = [0u64; 4096];
-    spell_in(
-        &mut val,
-        sa,
-        sc,
-        off,
-        few,
-        k,
-        f,
-        hi,
-        m,
-        ex,
-        ey,
-        corner,
-        numbers,
-        steps,
-        ends,
-    )
-}
-
-fn spell_5632(
-    sa: &[usize; 8],
-    sc: &[usize; 8],
-    off: &[usize; 8],
-    few: bool,
-    k: usize,
-    f: usize,
-    hi: usize,
-    m: usize,
-    ex: usize,
-    ey: usize,
-    corner: bool,
-    numbers: &[u64],
-    steps: &mut [u8],
-    ends: &mut [usize],
-) -> Built
-    requires { ⌜ Prepared few k f (now sa) (now sc) (now off) hi m ex ey 5632 × Room (length (now numbers)) (length (now steps)) (length (now ends)) ⌝ }
-    ensures { λ r. ⌜ LinedAs (lined (edgesFor corner k f (now (sa .entry)) (now (sc .entry)) ex ey (now (numbers .entry))) (now (steps .entry)) (now (ends .entry))) r (now (steps .exit)) (now (ends .exit)) ⌝ }
-{
-    let mut val = [0u64; 5632];
+    let mut val = [0u64; 3712];
     spell_in(
         &mut val,
         sa,
@@ -387,7 +348,7 @@ fn spell_7040(
     )
 }
 
-// The edges, over a table of the smallest of six sizes that has room.
+// The edges, over a table of the smallest of five sizes that has room.
 pub(crate) fn spell_edges(
     sa: &[usize; 8],
     sc: &[usize; 8],
@@ -410,8 +371,8 @@ pub(crate) fn spell_edges(
     let stride = m + ey + 1;
     let off = offsets(sa, sc, k, f, top, ex, ey, stride);
     let cells = (ex + 2) * stride;
-    if cells <= 1024 {
-        return spell_1024(
+    if cells <= 384 {
+        return spell_384(
             sa,
             sc,
             &off,
@@ -428,8 +389,8 @@ pub(crate) fn spell_edges(
             ends,
         );
     }
-    if cells <= 2048 {
-        return spell_2048(
+    if cells <= 1280 {
+        return spell_1280(
             sa,
             sc,
             &off,
@@ -446,8 +407,8 @@ pub(crate) fn spell_edges(
             ends,
         );
     }
-    if cells <= 3072 {
-        return spell_3072(
+    if cells <= 2496 {
+        return spell_2496(
             sa,
             sc,
             &off,
@@ -464,26 +425,8 @@ pub(crate) fn spell_edges(
             ends,
         );
     }
-    if cells <= 4096 {
-        return spell_4096(
-            sa,
-            sc,
-            &off,
-            few,
-            k,
-            f,
-            hi,
-            m,
-            ex,
-            ey,
-            corner,
-            numbers,
-            steps,
-            ends,
-        );
-    }
-    if cells <= 5632 {
-        return spell_5632(
+    if cells <= 3712 {
+        return spell_3712(
             sa,
             sc,
             &off,

@@ -28,41 +28,35 @@ add-cells c = search needs
 mul-cells : tie.Need-mul-cells
 mul-cells c = let h = cells-le (c .before .before .before .before .pre) (c .before .before .before .steepest .ensures) (c .before .before .deepest .ensures) in omega arith
 
-count-1024-requires : tie.Need-count-1024-requires
-count-1024-requires c κs = prepared (c .before .before .before .before .before .before .pre) (c .before .before .before .before .before .steepest .ensures) (c .before .before .before .before .deepest .ensures) (c .before .before .before .is-few .ensures) (c .before .before .offsets .ensures) 1024 (c .before .if1 .taken)
+count-384-requires : tie.Need-count-384-requires
+count-384-requires c κs = prepared (c .before .before .before .before .before .before .pre) (c .before .before .before .before .before .steepest .ensures) (c .before .before .before .before .deepest .ensures) (c .before .before .before .is-few .ensures) (c .before .before .offsets .ensures) 384 (c .before .if1 .taken)
 
 returns : tie.Need-returns
 returns c = search needs
 
-count-2048-requires : tie.Need-count-2048-requires
-count-2048-requires c κs = prepared (c .before .before .before .before .before .before .before .pre) (c .before .before .before .before .before .before .steepest .ensures) (c .before .before .before .before .before .deepest .ensures) (c .before .before .before .before .is-few .ensures) (c .before .before .before .offsets .ensures) 2048 (c .before .if2 .taken)
+count-1280-requires : tie.Need-count-1280-requires
+count-1280-requires c κs = prepared (c .before .before .before .before .before .before .before .pre) (c .before .before .before .before .before .before .steepest .ensures) (c .before .before .before .before .before .deepest .ensures) (c .before .before .before .before .is-few .ensures) (c .before .before .before .offsets .ensures) 1280 (c .before .if2 .taken)
 
 returns-2 : tie.Need-returns-2
 returns-2 c = search needs
 
-count-3072-requires : tie.Need-count-3072-requires
-count-3072-requires c κs = prepared (c .before .before .before .before .before .before .before .before .pre) (c .before .before .before .before .before .before .before .steepest .ensures) (c .before .before .before .before .before .before .deepest .ensures) (c .before .before .before .before .before .is-few .ensures) (c .before .before .before .before .offsets .ensures) 3072 (c .before .if3 .taken)
+count-2496-requires : tie.Need-count-2496-requires
+count-2496-requires c κs = prepared (c .before .before .before .before .before .before .before .before .pre) (c .before .before .before .before .before .before .before .steepest .ensures) (c .before .before .before .before .before .before .deepest .ensures) (c .before .before .before .before .before .is-few .ensures) (c .before .before .before .before .offsets .ensures) 2496 (c .before .if3 .taken)
 
 returns-3 : tie.Need-returns-3
 returns-3 c = search needs
 
-count-4096-requires : tie.Need-count-4096-requires
-count-4096-requires c κs = prepared (c .before .before .before .before .before .before .before .before .before .pre) (c .before .before .before .before .before .before .before .before .steepest .ensures) (c .before .before .before .before .before .before .before .deepest .ensures) (c .before .before .before .before .before .before .is-few .ensures) (c .before .before .before .before .before .offsets .ensures) 4096 (c .before .if4 .taken)
+count-3712-requires : tie.Need-count-3712-requires
+count-3712-requires c κs = prepared (c .before .before .before .before .before .before .before .before .before .pre) (c .before .before .before .before .before .before .before .before .steepest .ensures) (c .before .before .before .before .before .before .before .deepest .ensures) (c .before .before .before .before .before .before .is-few .ensures) (c .before .before .before .before .before .offsets .ensures) 3712 (c .before .if4 .taken)
 
 returns-4 : tie.Need-returns-4
 returns-4 c = search needs
 
-count-5632-requires : tie.Need-count-5632-requires
-count-5632-requires c κs = prepared (c .before .before .before .before .before .before .before .before .before .before .pre) (c .before .before .before .before .before .before .before .before .before .steepest .ensures) (c .before .before .before .before .before .before .before .before .deepest .ensures) (c .before .before .before .before .before .before .before .is-few .ensures) (c .before .before .before .before .before .before .offsets .ensures) 5632 (c .before .if5 .taken)
+count-7040-requires : tie.Need-count-7040-requires
+count-7040-requires c κs = prepared (c .before .before .before .before .before .before .before .before .before .pre) (c .before .before .before .before .before .before .before .before .steepest .ensures) (c .before .before .before .before .before .before .before .deepest .ensures) (c .before .before .before .before .before .before .is-few .ensures) (c .before .before .before .before .before .offsets .ensures) 7040 (let h = cells-le (c .before .before .before .before .before .before .before .before .before .pre) (c .before .before .before .before .before .before .before .before .steepest .ensures) (c .before .before .before .before .before .before .before .deepest .ensures) in omega arith)
 
 returns-5 : tie.Need-returns-5
 returns-5 c = search needs
-
-count-7040-requires : tie.Need-count-7040-requires
-count-7040-requires c κs = prepared (c .before .before .before .before .before .before .before .before .before .before .pre) (c .before .before .before .before .before .before .before .before .before .steepest .ensures) (c .before .before .before .before .before .before .before .before .deepest .ensures) (c .before .before .before .before .before .before .before .is-few .ensures) (c .before .before .before .before .before .before .offsets .ensures) 7040 (let h = cells-le (c .before .before .before .before .before .before .before .before .before .before .pre) (c .before .before .before .before .before .before .before .before .before .steepest .ensures) (c .before .before .before .before .before .before .before .before .deepest .ensures) in omega arith)
-
-returns-6 : tie.Need-returns-6
-returns-6 c = search needs
 
 pub count-spec : {M : Type 1} → statement M
 count-spec =
@@ -76,15 +70,13 @@ count-spec =
     offsets-requires
     add-cells
     mul-cells
-    count-1024-requires
+    count-384-requires
     returns
-    count-2048-requires
+    count-1280-requires
     returns-2
-    count-3072-requires
+    count-2496-requires
     returns-3
-    count-4096-requires
+    count-3712-requires
     returns-4
-    count-5632-requires
-    returns-5
     count-7040-requires
-    returns-6)
+    returns-5)

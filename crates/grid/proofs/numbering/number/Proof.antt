@@ -29,41 +29,35 @@ add-cells c = search needs
 mul-cells : tie.Need-mul-cells
 mul-cells c = let h = cells-le (c .before .before .before .before .before .pre) (c .before .before .before .steepest .ensures) (c .before .before .deepest .ensures) in omega arith
 
-number-1024-requires : tie.Need-number-1024-requires
-number-1024-requires c κs = (prepared (c .before .before .before .before .before .before .before .pre) (c .before .before .before .before .before .steepest .ensures) (c .before .before .before .before .deepest .ensures) (c .before .before .before .is-few .ensures) (c .before .before .offsets .ensures) 1024 (c .before .if1 .taken), c .before .before .before .before .before .before .before .pre)
+number-384-requires : tie.Need-number-384-requires
+number-384-requires c κs = (prepared (c .before .before .before .before .before .before .before .pre) (c .before .before .before .before .before .steepest .ensures) (c .before .before .before .before .deepest .ensures) (c .before .before .before .is-few .ensures) (c .before .before .offsets .ensures) 384 (c .before .if1 .taken), c .before .before .before .before .before .before .before .pre)
 
 returns : tie.Need-returns
 returns c = search needs
 
-number-2048-requires : tie.Need-number-2048-requires
-number-2048-requires c κs = (prepared (c .before .before .before .before .before .before .before .before .pre) (c .before .before .before .before .before .before .steepest .ensures) (c .before .before .before .before .before .deepest .ensures) (c .before .before .before .before .is-few .ensures) (c .before .before .before .offsets .ensures) 2048 (c .before .if2 .taken), c .before .before .before .before .before .before .before .before .pre)
+number-1280-requires : tie.Need-number-1280-requires
+number-1280-requires c κs = (prepared (c .before .before .before .before .before .before .before .before .pre) (c .before .before .before .before .before .before .steepest .ensures) (c .before .before .before .before .before .deepest .ensures) (c .before .before .before .before .is-few .ensures) (c .before .before .before .offsets .ensures) 1280 (c .before .if2 .taken), c .before .before .before .before .before .before .before .before .pre)
 
 returns-2 : tie.Need-returns-2
 returns-2 c = search needs
 
-number-3072-requires : tie.Need-number-3072-requires
-number-3072-requires c κs = (prepared (c .before .before .before .before .before .before .before .before .before .pre) (c .before .before .before .before .before .before .before .steepest .ensures) (c .before .before .before .before .before .before .deepest .ensures) (c .before .before .before .before .before .is-few .ensures) (c .before .before .before .before .offsets .ensures) 3072 (c .before .if3 .taken), c .before .before .before .before .before .before .before .before .before .pre)
+number-2496-requires : tie.Need-number-2496-requires
+number-2496-requires c κs = (prepared (c .before .before .before .before .before .before .before .before .before .pre) (c .before .before .before .before .before .before .before .steepest .ensures) (c .before .before .before .before .before .before .deepest .ensures) (c .before .before .before .before .before .is-few .ensures) (c .before .before .before .before .offsets .ensures) 2496 (c .before .if3 .taken), c .before .before .before .before .before .before .before .before .before .pre)
 
 returns-3 : tie.Need-returns-3
 returns-3 c = search needs
 
-number-4096-requires : tie.Need-number-4096-requires
-number-4096-requires c κs = (prepared (c .before .before .before .before .before .before .before .before .before .before .pre) (c .before .before .before .before .before .before .before .before .steepest .ensures) (c .before .before .before .before .before .before .before .deepest .ensures) (c .before .before .before .before .before .before .is-few .ensures) (c .before .before .before .before .before .offsets .ensures) 4096 (c .before .if4 .taken), c .before .before .before .before .before .before .before .before .before .before .pre)
+number-3712-requires : tie.Need-number-3712-requires
+number-3712-requires c κs = (prepared (c .before .before .before .before .before .before .before .before .before .before .pre) (c .before .before .before .before .before .before .before .before .steepest .ensures) (c .before .before .before .before .before .before .before .deepest .ensures) (c .before .before .before .before .before .before .is-few .ensures) (c .before .before .before .before .before .offsets .ensures) 3712 (c .before .if4 .taken), c .before .before .before .before .before .before .before .before .before .before .pre)
 
 returns-4 : tie.Need-returns-4
 returns-4 c = search needs
 
-number-5632-requires : tie.Need-number-5632-requires
-number-5632-requires c κs = (prepared (c .before .before .before .before .before .before .before .before .before .before .before .pre) (c .before .before .before .before .before .before .before .before .before .steepest .ensures) (c .before .before .before .before .before .before .before .before .deepest .ensures) (c .before .before .before .before .before .before .before .is-few .ensures) (c .before .before .before .before .before .before .offsets .ensures) 5632 (c .before .if5 .taken), c .before .before .before .before .before .before .before .before .before .before .before .pre)
+number-7040-requires : tie.Need-number-7040-requires
+number-7040-requires c κs = (prepared (c .before .before .before .before .before .before .before .before .before .before .pre) (c .before .before .before .before .before .before .before .before .steepest .ensures) (c .before .before .before .before .before .before .before .deepest .ensures) (c .before .before .before .before .before .before .is-few .ensures) (c .before .before .before .before .before .offsets .ensures) 7040 (let h = cells-le (c .before .before .before .before .before .before .before .before .before .before .pre) (c .before .before .before .before .before .before .before .before .steepest .ensures) (c .before .before .before .before .before .before .before .deepest .ensures) in omega arith), c .before .before .before .before .before .before .before .before .before .before .pre)
 
 returns-5 : tie.Need-returns-5
 returns-5 c = search needs
-
-number-7040-requires : tie.Need-number-7040-requires
-number-7040-requires c κs = (prepared (c .before .before .before .before .before .before .before .before .before .before .before .pre) (c .before .before .before .before .before .before .before .before .before .steepest .ensures) (c .before .before .before .before .before .before .before .before .deepest .ensures) (c .before .before .before .before .before .before .before .is-few .ensures) (c .before .before .before .before .before .before .offsets .ensures) 7040 (let h = cells-le (c .before .before .before .before .before .before .before .before .before .before .before .pre) (c .before .before .before .before .before .before .before .before .before .steepest .ensures) (c .before .before .before .before .before .before .before .before .deepest .ensures) in omega arith), c .before .before .before .before .before .before .before .before .before .before .before .pre)
-
-returns-6 : tie.Need-returns-6
-returns-6 c = search needs
 
 pub number-spec : {M : Type 1} → statement M
 number-spec =
@@ -77,15 +71,13 @@ number-spec =
     offsets-requires
     add-cells
     mul-cells
-    number-1024-requires
+    number-384-requires
     returns
-    number-2048-requires
+    number-1280-requires
     returns-2
-    number-3072-requires
+    number-2496-requires
     returns-3
-    number-4096-requires
+    number-3712-requires
     returns-4
-    number-5632-requires
-    returns-5
     number-7040-requires
-    returns-6)
+    returns-5)

@@ -29,8 +29,8 @@ add-cells c = search needs
 mul-cells : tie.Need-mul-cells
 mul-cells c = let h = (cells-le (c .before .before .before .before .before .before .before .pre .0) (c .before .before .before .steepest .ensures) (c .before .before .deepest .ensures)) in omega arith
 
-spell-1024-requires : tie.Need-spell-1024-requires
-spell-1024-requires c κs = (prepared (c .before .before .before .before .before .before .before .before .before .before .before .pre .0) (c .before .before .before .before .before .before .before .steepest .ensures) (c .before .before .before .before .before .before .deepest .ensures) (c .before .before .before .before .before .is-few .ensures) (c .before .before .before .before .offsets .ensures) 1024 (c .before .before .before .if1 .taken), c .before .before .before .before .before .before .before .before .before .before .before .pre .1)
+spell-384-requires : tie.Need-spell-384-requires
+spell-384-requires c κs = (prepared (c .before .before .before .before .before .before .before .before .before .before .before .pre .0) (c .before .before .before .before .before .before .before .steepest .ensures) (c .before .before .before .before .before .before .deepest .ensures) (c .before .before .before .before .before .is-few .ensures) (c .before .before .before .before .offsets .ensures) 384 (c .before .before .before .if1 .taken), c .before .before .before .before .before .before .before .before .before .before .before .pre .1)
 
 same-length : tie.Need-same-length
 same-length c = search needs
@@ -41,8 +41,8 @@ same-length-2 c = search needs
 returns : tie.Need-returns
 returns c = search needs
 
-spell-2048-requires : tie.Need-spell-2048-requires
-spell-2048-requires c κs = (prepared (c .before .before .before .before .before .before .before .before .before .before .before .before .pre .0) (c .before .before .before .before .before .before .before .before .steepest .ensures) (c .before .before .before .before .before .before .before .deepest .ensures) (c .before .before .before .before .before .before .is-few .ensures) (c .before .before .before .before .before .offsets .ensures) 2048 (c .before .before .before .if2 .taken), c .before .before .before .before .before .before .before .before .before .before .before .before .pre .1)
+spell-1280-requires : tie.Need-spell-1280-requires
+spell-1280-requires c κs = (prepared (c .before .before .before .before .before .before .before .before .before .before .before .before .pre .0) (c .before .before .before .before .before .before .before .before .steepest .ensures) (c .before .before .before .before .before .before .before .deepest .ensures) (c .before .before .before .before .before .before .is-few .ensures) (c .before .before .before .before .before .offsets .ensures) 1280 (c .before .before .before .if2 .taken), c .before .before .before .before .before .before .before .before .before .before .before .before .pre .1)
 
 same-length-3 : tie.Need-same-length-3
 same-length-3 c = search needs
@@ -53,8 +53,8 @@ same-length-4 c = search needs
 returns-2 : tie.Need-returns-2
 returns-2 c = search needs
 
-spell-3072-requires : tie.Need-spell-3072-requires
-spell-3072-requires c κs = (prepared (c .before .before .before .before .before .before .before .before .before .before .before .before .before .pre .0) (c .before .before .before .before .before .before .before .before .before .steepest .ensures) (c .before .before .before .before .before .before .before .before .deepest .ensures) (c .before .before .before .before .before .before .before .is-few .ensures) (c .before .before .before .before .before .before .offsets .ensures) 3072 (c .before .before .before .if3 .taken), c .before .before .before .before .before .before .before .before .before .before .before .before .before .pre .1)
+spell-2496-requires : tie.Need-spell-2496-requires
+spell-2496-requires c κs = (prepared (c .before .before .before .before .before .before .before .before .before .before .before .before .before .pre .0) (c .before .before .before .before .before .before .before .before .before .steepest .ensures) (c .before .before .before .before .before .before .before .before .deepest .ensures) (c .before .before .before .before .before .before .before .is-few .ensures) (c .before .before .before .before .before .before .offsets .ensures) 2496 (c .before .before .before .if3 .taken), c .before .before .before .before .before .before .before .before .before .before .before .before .before .pre .1)
 
 same-length-5 : tie.Need-same-length-5
 same-length-5 c = search needs
@@ -65,8 +65,8 @@ same-length-6 c = search needs
 returns-3 : tie.Need-returns-3
 returns-3 c = search needs
 
-spell-4096-requires : tie.Need-spell-4096-requires
-spell-4096-requires c κs = (prepared (c .before .before .before .before .before .before .before .before .before .before .before .before .before .before .pre .0) (c .before .before .before .before .before .before .before .before .before .before .steepest .ensures) (c .before .before .before .before .before .before .before .before .before .deepest .ensures) (c .before .before .before .before .before .before .before .before .is-few .ensures) (c .before .before .before .before .before .before .before .offsets .ensures) 4096 (c .before .before .before .if4 .taken), c .before .before .before .before .before .before .before .before .before .before .before .before .before .before .pre .1)
+spell-3712-requires : tie.Need-spell-3712-requires
+spell-3712-requires c κs = (prepared (c .before .before .before .before .before .before .before .before .before .before .before .before .before .before .pre .0) (c .before .before .before .before .before .before .before .before .before .before .steepest .ensures) (c .before .before .before .before .before .before .before .before .before .deepest .ensures) (c .before .before .before .before .before .before .before .before .is-few .ensures) (c .before .before .before .before .before .before .before .offsets .ensures) 3712 (c .before .before .before .if4 .taken), c .before .before .before .before .before .before .before .before .before .before .before .before .before .before .pre .1)
 
 same-length-7 : tie.Need-same-length-7
 same-length-7 c = search needs
@@ -77,8 +77,8 @@ same-length-8 c = search needs
 returns-4 : tie.Need-returns-4
 returns-4 c = search needs
 
-spell-5632-requires : tie.Need-spell-5632-requires
-spell-5632-requires c κs = (prepared (c .before .before .before .before .before .before .before .before .before .before .before .before .before .before .before .pre .0) (c .before .before .before .before .before .before .before .before .before .before .before .steepest .ensures) (c .before .before .before .before .before .before .before .before .before .before .deepest .ensures) (c .before .before .before .before .before .before .before .before .before .is-few .ensures) (c .before .before .before .before .before .before .before .before .offsets .ensures) 5632 (c .before .before .before .if5 .taken), c .before .before .before .before .before .before .before .before .before .before .before .before .before .before .before .pre .1)
+spell-7040-requires : tie.Need-spell-7040-requires
+spell-7040-requires c κs = (prepared (c .before .before .before .before .before .before .before .before .before .before .before .before .before .before .pre .0) (c .before .before .before .before .before .before .before .before .before .before .steepest .ensures) (c .before .before .before .before .before .before .before .before .before .deepest .ensures) (c .before .before .before .before .before .before .before .before .is-few .ensures) (c .before .before .before .before .before .before .before .offsets .ensures) 7040 (let h = (cells-le (c .before .before .before .before .before .before .before .before .before .before .before .before .before .before .pre .0) (c .before .before .before .before .before .before .before .before .before .before .steepest .ensures) (c .before .before .before .before .before .before .before .before .before .deepest .ensures)) in omega arith), c .before .before .before .before .before .before .before .before .before .before .before .before .before .before .pre .1)
 
 same-length-9 : tie.Need-same-length-9
 same-length-9 c = search needs
@@ -88,18 +88,6 @@ same-length-10 c = search needs
 
 returns-5 : tie.Need-returns-5
 returns-5 c = search needs
-
-spell-7040-requires : tie.Need-spell-7040-requires
-spell-7040-requires c κs = (prepared (c .before .before .before .before .before .before .before .before .before .before .before .before .before .before .before .pre .0) (c .before .before .before .before .before .before .before .before .before .before .before .steepest .ensures) (c .before .before .before .before .before .before .before .before .before .before .deepest .ensures) (c .before .before .before .before .before .before .before .before .before .is-few .ensures) (c .before .before .before .before .before .before .before .before .offsets .ensures) 7040 (let h = (cells-le (c .before .before .before .before .before .before .before .before .before .before .before .before .before .before .before .pre .0) (c .before .before .before .before .before .before .before .before .before .before .before .steepest .ensures) (c .before .before .before .before .before .before .before .before .before .before .deepest .ensures)) in omega arith), c .before .before .before .before .before .before .before .before .before .before .before .before .before .before .before .pre .1)
-
-same-length-11 : tie.Need-same-length-11
-same-length-11 c = search needs
-
-same-length-12 : tie.Need-same-length-12
-same-length-12 c = search needs
-
-returns-6 : tie.Need-returns-6
-returns-6 c = search needs
 
 pub spell-edges-spec : {M : Type 1} → statement M
 spell-edges-spec =
@@ -113,27 +101,23 @@ spell-edges-spec =
     offsets-requires
     add-cells
     mul-cells
-    spell-1024-requires
+    spell-384-requires
     same-length
     same-length-2
     returns
-    spell-2048-requires
+    spell-1280-requires
     same-length-3
     same-length-4
     returns-2
-    spell-3072-requires
+    spell-2496-requires
     same-length-5
     same-length-6
     returns-3
-    spell-4096-requires
+    spell-3712-requires
     same-length-7
     same-length-8
     returns-4
-    spell-5632-requires
+    spell-7040-requires
     same-length-9
     same-length-10
-    returns-5
-    spell-7040-requires
-    same-length-11
-    same-length-12
-    returns-6)
+    returns-5)

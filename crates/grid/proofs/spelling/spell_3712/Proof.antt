@@ -1,14 +1,14 @@
--- `grid::spelling::spell_1024` meets its contract: a blank table of this size is lent. Assumes nothing.
+-- `grid::spelling::spell_3712` meets its contract: a blank table of this size is lent. Assumes nothing.
 use Rattle.job.proofs.Puts.{zeros-at}
 use borrow.Author.Needs.{needs}
-use Rattle.grid.proofs.spelling.spell_1024.Statement.{statement}
-use Rattle.grid.proofs.spelling.spell_1024.Tie as tie
+use Rattle.grid.proofs.spelling.spell_3712.Statement.{statement}
+use Rattle.grid.proofs.spelling.spell_3712.Tie as tie
 
 slice-aggregate-spell-in : tie.Need-slice-aggregate-spell-in
 slice-aggregate-spell-in c = search needs
 
 spell-in-requires : tie.Need-spell-in-requires
-spell-in-requires c κs = (record { ready = c .before .before .before .before .before .before .pre .0; zero-at = zeros-at 1024 }, c .before .before .before .before .before .before .pre .1)
+spell-in-requires c κs = (record { ready = c .before .before .before .before .before .before .pre .0; zero-at = zeros-at 3712 }, c .before .before .before .before .before .before .pre .1)
 
 same-length : tie.Need-same-length
 same-length c = search needs
@@ -19,7 +19,7 @@ same-length-2 c = search needs
 returns : tie.Need-returns
 returns c = search needs
 
-pub spell-1024-spec : {M : Type 1} → statement M
-spell-1024-spec =
+pub spell-3712-spec : {M : Type 1} → statement M
+spell-3712-spec =
     tie.close
     (tie.spec slice-aggregate-spell-in spell-in-requires same-length same-length-2 returns)
