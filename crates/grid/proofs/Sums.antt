@@ -3,6 +3,8 @@
 --   column-none, column-more, column-at    a run summed as far as i: not at all, one cell more, all of it
 --   Sources4, Sources8                     where the runs start that it is summed from
 --   sum4, sum8                             the sum of a turn is the cell's, and fits
+--   Parts4, parts4, Parts8, parts8         the sums on the way to it fit too
+--   at-fits, at-byte, at-in                the cells of a run can be read, to-fits, to-byte, to-in: and written
 --   high-le, above-fits                    the bits above 2^61, and their sum
 use mathlib.Core.Path.{_≡_, refl, sym, _∙_}
 use mathlib.Core.List.{List}
@@ -99,6 +101,48 @@ sum8 {val₀} {val} {sa} {off} {x} {d} {n} {i} {s0} {s1} {s2} {s3} {s4} {s5} {s6
       at 7 s7 (so .is7) (so .end7),
     ) in
     (e, omega (arith, ru .fits i l))
+
+-- the sums on the way fit where the whole does
+pub record Parts4 (a b c d : ℕ) : Type 0 where
+  pub two : a + b < 2 ^ 64
+  pub three : a + b + c < 2 ^ 64
+  pub four : a + b + c + d < 2 ^ 64
+
+pub parts4 : (a b c d : ℕ) → a + b + c + d < 2 ^ 64 → Parts4 a b c d
+parts4 a b c d l = record { two = omega arith; three = omega arith; four = l }
+
+pub record Parts8 (a b c d e f g h : ℕ) : Type 0 where
+  pub two : a + b < 2 ^ 64
+  pub three : a + b + c < 2 ^ 64
+  pub four : a + b + c + d < 2 ^ 64
+  pub five : a + b + c + d + e < 2 ^ 64
+  pub six : a + b + c + d + e + f < 2 ^ 64
+  pub seven : a + b + c + d + e + f + g < 2 ^ 64
+  pub eight : a + b + c + d + e + f + g + h < 2 ^ 64
+
+pub parts8 : (a b c d e f g h : ℕ) → a + b + c + d + e + f + g + h < 2 ^ 64 → Parts8 a b c d e f g h
+parts8 a b c d e f g h l = record { two = omega arith; three = omega arith; four = omega arith; five = omega arith; six = omega arith; seven = omega arith; eight = l }
+
+-- a cell of a run that is read, and one that is written
+module _ (s i n d l l₀ : ℕ) (h : i < n) (e : s + n ≤ d) (r : d + n ≤ l₀) (q : l ≡ l₀) (b : (d + n) * 8 < 2 ^ 64) where
+  pub at-fits : s + i < 2 ^ 64
+  at-fits = omega arith
+
+  pub at-byte : (s + i) * 8 < 2 ^ 64
+  at-byte = omega arith
+
+  pub at-in : s + i < l
+  at-in = omega arith
+
+module _ (i n d l l₀ : ℕ) (h : i < n) (r : d + n ≤ l₀) (q : l ≡ l₀) (b : (d + n) * 8 < 2 ^ 64) where
+  pub to-fits : d + i < 2 ^ 64
+  to-fits = omega arith
+
+  pub to-byte : (d + i) * 8 < 2 ^ 64
+  to-byte = omega arith
+
+  pub to-in : d + i < l
+  to-in = omega arith
 
 pub high-le : (v : ℕ) → v < 2 ^ 64 → v / 2305843009213693952 ≤ 7
 high-le v l = omega arith

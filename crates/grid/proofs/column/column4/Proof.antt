@@ -4,7 +4,7 @@ use native.Mathlib.Omega.{arith}
 use borrow.Author.Needs.{needs}
 use lib.ListN.{length, length-set}
 use Rattle.grid.specs.Cells.{Run, Column}
-use Rattle.grid.proofs.Sums.{Sources4, sum4, column-none, column-more, column-at}
+use Rattle.grid.proofs.Sums.{Sources4, sum4, parts4, at-fits, at-byte, at-in, to-fits, to-byte, to-in, column-none, column-more, column-at}
 use Rattle.grid.proofs.column.column4.Statement.{statement}
 use Rattle.grid.proofs.column.column4.Tie as tie
 
@@ -31,58 +31,58 @@ loop-holds : tie.Need-loop-holds Inv-loop μ-loop
 loop-holds c = (omega arith, refl, c .before .before .before .before .before .pre .inside, record { is0 = c .before .before .before .source .ensures; end0 = omega (arith, c .before .before .before .before .before .pre .apart 0 (omega arith), c .before .before .before .source .ensures); is1 = c .before .before .source2 .ensures; end1 = omega (arith, c .before .before .before .before .before .pre .apart 1 (omega arith), c .before .before .source2 .ensures); is2 = c .before .source3 .ensures; end2 = omega (arith, c .before .before .before .before .before .pre .apart 2 (omega arith), c .before .source3 .ensures); is3 = c .source4 .ensures; end3 = omega (arith, c .before .before .before .before .before .pre .apart 3 (omega arith), c .source4 .ensures) }, c .before .before .before .before .before .pre, column-none _ _ _ _ _ _, omega (arith, c .before .before .before .before .before .pre .inside))
 
 add-val : tie.Need-add-val Inv-loop μ-loop
-add-val c = omega arith
+add-val c = record { fits = at-fits _ _ _ _ _ _ (c .loop-test .taken) (c .before .loop .inv .3 .end0) (c .before .loop .inv .2) (c .before .loop .inv .1) (c .before .loop .inv .6) }
 
 mul-val : tie.Need-mul-val Inv-loop μ-loop
-mul-val c = omega arith
+mul-val c = record { fits = at-byte _ _ _ _ _ _ (c .loop-test .taken) (c .before .loop .inv .3 .end0) (c .before .loop .inv .2) (c .before .loop .inv .1) (c .before .loop .inv .6) }
 
 slice-read-val : tie.Need-slice-read-val Inv-loop μ-loop
-slice-read-val c = omega arith
+slice-read-val c = at-in _ _ _ _ _ _ (c .before .loop-test .taken) (c .before .before .loop .inv .3 .end0) (c .before .before .loop .inv .2) (c .before .before .loop .inv .1) (c .before .before .loop .inv .6)
 
 add-val-2 : tie.Need-add-val-2 Inv-loop μ-loop
-add-val-2 c = omega arith
+add-val-2 c = record { fits = at-fits _ _ _ _ _ _ (c .before .loop-test .taken) (c .before .before .loop .inv .3 .end1) (c .before .before .loop .inv .2) (c .before .before .loop .inv .1) (c .before .before .loop .inv .6) }
 
 mul-val-2 : tie.Need-mul-val-2 Inv-loop μ-loop
-mul-val-2 c = omega arith
+mul-val-2 c = record { fits = at-byte _ _ _ _ _ _ (c .before .loop-test .taken) (c .before .before .loop .inv .3 .end1) (c .before .before .loop .inv .2) (c .before .before .loop .inv .1) (c .before .before .loop .inv .6) }
 
 slice-read-val-2 : tie.Need-slice-read-val-2 Inv-loop μ-loop
-slice-read-val-2 c = omega arith
+slice-read-val-2 c = at-in _ _ _ _ _ _ (c .before .before .loop-test .taken) (c .before .before .before .loop .inv .3 .end1) (c .before .before .before .loop .inv .2) (c .before .before .before .loop .inv .1) (c .before .before .before .loop .inv .6)
 
 add-val-3 : tie.Need-add-val-3 Inv-loop μ-loop
-add-val-3 c = omega (arith, sum4 (c .before .before .before .loop .inv .5) (c .before .before .loop-test .taken) (c .before .before .before .loop .inv .3) (c .before .before .before .loop .inv .4) .1)
+add-val-3 c = record { fits = parts4 _ _ _ _ (sum4 (c .before .before .before .loop .inv .5) (c .before .before .loop-test .taken) (c .before .before .before .loop .inv .3) (c .before .before .before .loop .inv .4) .1) .two }
 
 add-val-4 : tie.Need-add-val-4 Inv-loop μ-loop
-add-val-4 c = omega arith
+add-val-4 c = record { fits = at-fits _ _ _ _ _ _ (c .before .before .loop-test .taken) (c .before .before .before .loop .inv .3 .end2) (c .before .before .before .loop .inv .2) (c .before .before .before .loop .inv .1) (c .before .before .before .loop .inv .6) }
 
 mul-val-3 : tie.Need-mul-val-3 Inv-loop μ-loop
-mul-val-3 c = omega arith
+mul-val-3 c = record { fits = at-byte _ _ _ _ _ _ (c .before .before .loop-test .taken) (c .before .before .before .loop .inv .3 .end2) (c .before .before .before .loop .inv .2) (c .before .before .before .loop .inv .1) (c .before .before .before .loop .inv .6) }
 
 slice-read-val-3 : tie.Need-slice-read-val-3 Inv-loop μ-loop
-slice-read-val-3 c = omega arith
+slice-read-val-3 c = at-in _ _ _ _ _ _ (c .before .before .before .loop-test .taken) (c .before .before .before .before .loop .inv .3 .end2) (c .before .before .before .before .loop .inv .2) (c .before .before .before .before .loop .inv .1) (c .before .before .before .before .loop .inv .6)
 
 add-val-5 : tie.Need-add-val-5 Inv-loop μ-loop
-add-val-5 c = omega (arith, sum4 (c .before .before .before .before .loop .inv .5) (c .before .before .before .loop-test .taken) (c .before .before .before .before .loop .inv .3) (c .before .before .before .before .loop .inv .4) .1)
+add-val-5 c = record { fits = parts4 _ _ _ _ (sum4 (c .before .before .before .before .loop .inv .5) (c .before .before .before .loop-test .taken) (c .before .before .before .before .loop .inv .3) (c .before .before .before .before .loop .inv .4) .1) .three }
 
 add-val-6 : tie.Need-add-val-6 Inv-loop μ-loop
-add-val-6 c = omega arith
+add-val-6 c = record { fits = at-fits _ _ _ _ _ _ (c .before .before .before .loop-test .taken) (c .before .before .before .before .loop .inv .3 .end3) (c .before .before .before .before .loop .inv .2) (c .before .before .before .before .loop .inv .1) (c .before .before .before .before .loop .inv .6) }
 
 mul-val-4 : tie.Need-mul-val-4 Inv-loop μ-loop
-mul-val-4 c = omega arith
+mul-val-4 c = record { fits = at-byte _ _ _ _ _ _ (c .before .before .before .loop-test .taken) (c .before .before .before .before .loop .inv .3 .end3) (c .before .before .before .before .loop .inv .2) (c .before .before .before .before .loop .inv .1) (c .before .before .before .before .loop .inv .6) }
 
 slice-read-val-4 : tie.Need-slice-read-val-4 Inv-loop μ-loop
-slice-read-val-4 c = omega arith
+slice-read-val-4 c = at-in _ _ _ _ _ _ (c .before .before .before .before .loop-test .taken) (c .before .before .before .before .before .loop .inv .3 .end3) (c .before .before .before .before .before .loop .inv .2) (c .before .before .before .before .before .loop .inv .1) (c .before .before .before .before .before .loop .inv .6)
 
 add-val-7 : tie.Need-add-val-7 Inv-loop μ-loop
-add-val-7 c = omega (arith, sum4 (c .before .before .before .before .before .loop .inv .5) (c .before .before .before .before .loop-test .taken) (c .before .before .before .before .before .loop .inv .3) (c .before .before .before .before .before .loop .inv .4) .1)
+add-val-7 c = record { fits = parts4 _ _ _ _ (sum4 (c .before .before .before .before .before .loop .inv .5) (c .before .before .before .before .loop-test .taken) (c .before .before .before .before .before .loop .inv .3) (c .before .before .before .before .before .loop .inv .4) .1) .four }
 
 add-val-8 : tie.Need-add-val-8 Inv-loop μ-loop
-add-val-8 c = let h = c .before .before .before .before .before .loop .inv .6 in let g = c .before .before .before .before .loop-test .taken in omega arith
+add-val-8 c = record { fits = to-fits _ _ _ _ _ (c .before .before .before .before .loop-test .taken) (c .before .before .before .before .before .loop .inv .2) (c .before .before .before .before .before .loop .inv .1) (c .before .before .before .before .before .loop .inv .6) }
 
 mul-val-5 : tie.Need-mul-val-5 Inv-loop μ-loop
-mul-val-5 c = omega arith
+mul-val-5 c = record { fits = to-byte _ _ _ _ _ (c .before .before .before .before .loop-test .taken) (c .before .before .before .before .before .loop .inv .2) (c .before .before .before .before .before .loop .inv .1) (c .before .before .before .before .before .loop .inv .6) }
 
 slice-write-val : tie.Need-slice-write-val Inv-loop μ-loop
-slice-write-val c = omega arith
+slice-write-val c = to-in _ _ _ _ _ (c .before .before .before .before .loop-test .taken) (c .before .before .before .before .before .loop .inv .2) (c .before .before .before .before .before .loop .inv .1) (c .before .before .before .before .before .loop .inv .6)
 
 add-i : tie.Need-add-i Inv-loop μ-loop
 add-i c = omega arith
