@@ -9,7 +9,6 @@
 --   Onward G     every step goes on
 --   paths G p    how many walks lead to p
 use mathlib.Core.Bool.{Bool, _&&_}
-use mathlib.Core.Option.{Option}
 use Prim.Native.Nat.{ℕ, _+_, _-_, _*_, _<_}
 use lib.Dec.{leb, eqb}
 use Rattle.howmany.specs.Choose.{onlyIf}

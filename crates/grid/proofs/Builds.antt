@@ -28,7 +28,7 @@ use Rattle.rules.specs.Refusals.Answer.{accepted}
 use Rattle.rules.specs.Answers.{most, written}
 use Rattle.rules.specs.Packs.{joined}
 use Rattle.rules.specs.Questions.{allBelow, edgesAnswer}
-use Rattle.rules.proofs.Demand3.{InRange}
+use Rattle.rules.specs.Ranges.{InRange}
 use Rattle.rules.proofs.Answering.{known-told, edges-told, edges-fitted}
 use Rattle.rules.proofs.Belows.{below-at, below-not}
 use Rattle.job.specs.Replies.{BuiltAs}

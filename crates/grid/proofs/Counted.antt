@@ -22,7 +22,7 @@ use Rattle.rules.specs.Refusals.{Answer, check, refusalNumber}
 use Rattle.rules.specs.Refusals.Refusal.{over, not-an-edge}
 use Rattle.rules.specs.Refusals.Answer.{accepted, refused}
 use Rattle.rules.specs.Answers.{most, countAnswer, numberAnswer}
-use Rattle.rules.proofs.Demand3.{InRange}
+use Rattle.rules.specs.Ranges.{InRange}
 use Rattle.rules.proofs.Answering.{known-told, count-told, count-fitted, number-told, number-fitted}
 use Rattle.job.specs.Replies.{Reply, reply}
 use Rattle.job.specs.Replies.Reply.{value, refusal}

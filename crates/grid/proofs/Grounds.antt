@@ -23,7 +23,7 @@ use Rattle.rules.specs.Shear.{gridOf}
 use Rattle.rules.specs.Blocks.{square}
 use Rattle.rules.proofs.Corners.{north-east-shear, delannoy-shear}
 use Rattle.rules.proofs.Slopes.{slope-shear}
-use Rattle.rules.proofs.Demand3.{InRange}
+use Rattle.rules.specs.Ranges.{InRange}
 use Rattle.job.specs.declared.Job.{Job}
 use Rattle.job.specs.Stands.{Stands}
 use Rattle.job.specs.Stands.Stands.{as-dyck, as-schroder, as-motzkin, as-open, as-fenced}

@@ -35,7 +35,8 @@ use Rattle.rules.specs.Counts.{L, Dl, W, countOf, pairAt}
 use Rattle.rules.specs.Shear.{Is, lift, gridOf, Slope}
 use Rattle.rules.proofs.Signed.{is-shift, is-up, is-lift, is-apart}
 use Rattle.rules.proofs.Sheared.{Shear, some-end, walks-word}
-use Rattle.rules.proofs.Slopes.{Small, W-none, slope-shear}
+use Rattle.rules.specs.Ranges.{Small}
+use Rattle.rules.proofs.Slopes.{W-none, slope-shear}
 use Rattle.job.specs.declared.Job.{Job}
 use Rattle.job.specs.Stands.{Level, Directed, Stands}
 use Rattle.job.specs.Stands.Stands.{as-north-east, as-dyck, as-delannoy, as-schroder, as-motzkin, as-open, as-fenced}

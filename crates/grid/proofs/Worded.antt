@@ -37,7 +37,7 @@ use Rattle.rules.proofs.Letters.{map-reverse}
 use Rattle.rules.proofs.Sheared.{walks-word, number-word, edge-word}
 use Rattle.rules.proofs.Corners.{north-east-shear, delannoy-shear}
 use Rattle.rules.proofs.Slopes.{digit-at, digit-place, slope-shear}
-use Rattle.rules.proofs.Demand3.{InRange}
+use Rattle.rules.specs.Ranges.{InRange}
 use Rattle.letters.specs.Letters.{placeOf, glyphOf}
 use Rattle.grid.specs.Edges as edges
 use Rattle.grid.specs.Shapes.{Grids, isCorner, Sits, stepsAt, endAt, Fits}

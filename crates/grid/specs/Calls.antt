@@ -22,7 +22,7 @@ use Rattle.rules.specs.Refusals.Refusal.{kind, over, not-an-edge, beyond}
 use Rattle.rules.specs.Refusals.Answer.{accepted, refused}
 use Rattle.rules.specs.Answers.{most}
 use Rattle.rules.specs.Questions.{allBelow}
-use Rattle.rules.proofs.Demand3.{InRange}
+use Rattle.rules.specs.Ranges.{InRange}
 use Rattle.job.specs.declared.Counted.{Counted}
 use Rattle.job.specs.declared.Numbered.{Numbered}
 use Rattle.job.specs.declared.Built.{Built}

@@ -15,7 +15,7 @@ use lib.Dec.{leb}
 use lib.ListN.{length, getD, replicate}
 use Rattle.rules.specs.Jobs as rules
 use Rattle.rules.specs.Jobs.{Pair}
-use Rattle.rules.specs.Refusals.{Answer, Refusal, refusalNumber}
+use Rattle.rules.specs.Refusals.{Answer, refusalNumber}
 use Rattle.rules.specs.Refusals.Answer.{accepted, refused}
 use Rattle.rules.specs.Blocks.{signed, jobAnswer}
 use Rattle.job.specs.declared.Job.{Job}

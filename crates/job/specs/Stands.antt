@@ -4,7 +4,7 @@
 --   Directed j m ps    the end and the pairs of families 6 and 7, in their ranges
 --   Stands j J         the held job j stands for the job J
 use mathlib.Core.Path.{_≡_}
-use mathlib.Core.Bool.{Bool, true, false}
+use mathlib.Core.Bool.{true, false}
 use mathlib.Core.List.{List}
 use Prim.Native.Nat.{ℕ, _+_, _≤_, _<_}
 use lib.IntN.{ℤ}

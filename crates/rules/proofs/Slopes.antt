@@ -1,7 +1,6 @@
 -- Families 6 and 7 by the shear (x, y + 3x): what the backward-order theorem asks. W is the grid's count, by going back over both
 -- recurrences; below the lowest height that a step can reach both are 0. Assumes nothing.
 --
---   Small              what document 01's ranges say of a step set
 --   digit-place        the digits' places
 --   W-agrees, W-none   the counts
 --   slope-shear        what the theorem asks
@@ -12,8 +11,8 @@ use Prim.Native.Nat.{ℕ, zero, suc, _+_, _-_, _*_, _≤_, _<_}
 use native.Mathlib.Decide.{decLe}
 use native.Mathlib.Nat.{not-suc-le-zero, le-of-suc-le-suc}
 use native.Mathlib.Omega.{arith}
-use lib.Dec.{T, leb, eqb, le→leb}
-use lib.IntN.{ℤ, pos, negsuc, _+ℤ_, _-ℤ_}
+use lib.Dec.{leb, eqb, le→leb}
+use lib.IntN.{ℤ, pos, _+ℤ_, _-ℤ_}
 use lib.ListN.{length}
 use borrow.Author.Tests.{le-leb, lt-leb, eq-eqb, ne-eqb, leb-true, leb-false, eqb-true, eqb-false}
 use Rattle.howmany.specs.Choose.{pick, bit}
@@ -22,22 +21,18 @@ use Rattle.howmany.proofs.Choices.{is-true, is-false}
 use Rattle.howmany.proofs.Sums.{sum-cong, sum-none}
 use Rattle.backward.specs.Grid.{Spot, Steps, on, off, inside, reach, paths}
 use Rattle.backward.proofs.Grids.{paths-start, paths-step, paths-outside, reached, reaches, spot-eq}
-use Rattle.rules.specs.Points.{Point, Step, leℤ, eqℤ}
+use Rattle.rules.specs.Points.{Point, Step, eqℤ}
 use Rattle.rules.specs.Jobs.{Job, Pair, one, numbered, stepsOf, stays}
 use Rattle.rules.specs.Jobs.Job.{directed}
 use Rattle.rules.specs.Valid.{place, at}
 use Rattle.rules.specs.Order.{standing}
 use Rattle.rules.specs.Counts.{under, pairAt, from, Within, W}
 use Rattle.rules.specs.Shear.{Is, Slope, slopeGrid}
+use Rattle.rules.specs.Ranges.{Small}
 use Rattle.rules.proofs.Letters.{point-eq}
 use Rattle.rules.proofs.Signed.{is-shift, is-plus, is-minus, is-one, is-up, is-lift, is-fence, is-zero, is-below}
 use Rattle.rules.proofs.Sheared.{Back, Shear}
 use Rattle.rules.proofs.Sheared.Back.{to, gone}
-
-pub record Small (pairs : List Pair) : Type 0 where
-  pub few : length pairs ≤ 8
-  pub on : (i : ℕ) → i < length pairs → 1 ≤ pairAt pairs i .a
-  pub steep : (i : ℕ) → i < length pairs → T (leℤ (negsuc 2) (pairAt pairs i .b))
 
 -- ---- digits
 

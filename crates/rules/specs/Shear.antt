@@ -6,7 +6,7 @@
 --   Corner p q      the grid's spot q is (x + y, y) of the point p (families 1 and 3)
 --   Slope p q       the grid's spot q is (x, y + 3x) of the point p (families 6 and 7)
 use mathlib.Core.Path.{_≡_}
-use mathlib.Core.Bool.{Bool, true, false}
+use mathlib.Core.Bool.{Bool}
 use mathlib.Core.List.{List, [], _∷_}
 use Prim.Native.Nat.{ℕ, suc, _+_, _*_}
 use lib.IntN.{ℤ, pos, negsuc, _+ℤ_}
