@@ -1,3 +1,4 @@
+pub mod Sizes
 pub mod Tables
 pub mod Constants
 pub mod Sides

@@ -1,7 +1,7 @@
 -- Reading any string of bytes from its first step: what is read so far, and why no walk goes on where a reader stops. By going along
 -- the walk with the tree that is read. Assumes nothing.
 --
---   tail-part, tail-length, part-byte         the part of s that a reader is handed
+--   tail-part, tail-length, tail-some, tail-falls, inside-falls, part-byte    the part of s that a reader is handed
 --   edge-is, sized-by                         what a tree prints is an edge, and its size is where the walk ends
 --   path-good, path-bad, arch-good, arch-bad  what was got, by that test
 --   Sofar                                     what the loop of the path reader knows
@@ -43,6 +43,15 @@ tail-part a s = take-all (length s - a) (drop a s) (le-of-eq (length-drop a s))
 
 pub tail-length : (a : ℕ) (s : List ℕ) → length (take (length s - a) (drop a s)) ≡ length s - a
 tail-length a s = ap length (tail-part a s) ∙ length-drop a s
+
+pub tail-some : (a : ℕ) (s : List ℕ) → a < length s → 0 < length (take (length s - a) (drop a s))
+tail-some a s h = omega (arith, tail-length a s)
+
+pub tail-falls : (a : ℕ) (s : List ℕ) (t : ℕ) → 2 * length s + 1 ≡ t → 2 * length (take (length s - a) (drop a s)) < t
+tail-falls a s t e = omega (arith, tail-length a s)
+
+pub inside-falls : (s : List ℕ) (t : ℕ) → 2 * length s ≡ t → 0 < length s → 2 * length (take (length s - 1) (drop 1 s)) + 1 < t
+inside-falls s t e h = omega (arith, tail-length 1 s)
 
 byte-at : (s : List ℕ) (a b : ℕ) → a < length s → getD s a 0 ≡ b → drop a s ≡ b ∷ drop (a + 1) s
 byte-at s a b h e = rw (add-one a, drop-cons s a 0 h, e)

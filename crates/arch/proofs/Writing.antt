@@ -5,12 +5,15 @@
 --   spot-pos, spot-rem, spot-quot              the two parts' numbers, from what is left where the number falls
 --   written-none, written-dee, written-arch    an empty path, one that ends in `D`, one that ends in an arch
 --   written-length                             as many bytes as there were
---   first-room, first-length, part-room        the bytes that are left for an arch's second part
+--   dee-room, dee-length, dee-in, dee-fits     the byte of a last `D`
+--   first-room, first-length, first-before, first-in, first-to, first-fits, part-room    the byte between an arch's parts, and the
+--                                              bytes that are left for the second
+--   second-before, second-fits                 the byte after it
 --   Rooms, rooms                               what the code asks after its second call
 use mathlib.Core.Path.{_≡_, refl, sym, ap, ap₂, _∙_}
 use mathlib.Core.Bool.{Bool}
 use mathlib.Core.List.{List, [], _∷_, _++_, append-nil, append-assoc}
-use Prim.Native.Nat.{ℕ, suc, _+_, _-_, _*_, _/_, _%_, _≤_, _<_, zero-le}
+use Prim.Native.Nat.{ℕ, suc, _+_, _-_, _*_, _/_, _%_, _^_, _≤_, _<_, zero-le}
 use native.Mathlib.Nat.{mod-add-div, mod-lt, div-lt-iff-lt-mul, mul-comm}
 use native.Mathlib.Decide.{decLe}
 use native.Mathlib.Omega.{arith}
@@ -143,6 +146,19 @@ written-dee d v n r old new k pos p lt ltn m h =
     (ap (λ (z : List ℕ). set z k 68) (m .shown) ∙ put-byte (print d v t) old k 68 (m .long) h)
     (one-more (print d v t) 68 k (m .long))
 
+module _ {d : Bool} {v r : ℕ} {old new : List ℕ} {k : ℕ} (n : ℕ) (pos : 0 < n) (room : n + n ≤ length old) (p : Written d v (n - 1) r old new k) where
+  pub dee-room : k < length old
+  dee-room = omega (arith, p .short)
+
+  pub dee-length : length new ≡ length old
+  dee-length = written-length d v (n - 1) r old new k p (omega (arith, dee-room))
+
+  pub dee-in : k < length new
+  dee-in = omega (arith, dee-room, dee-length)
+
+  pub dee-fits : n ≤ 64 → k + 1 < 2 ^ 64
+  dee-fits h = omega (arith, p .short)
+
 pub written-arch : (d : Bool) (v n r hd i rest c x y : ℕ) (old L1 Q : List ℕ) (a b : ℕ) → x ≡ rest % c → y ≡ rest / c → 0 < n → r < count d v n
     → hd ≡ ifD d (count d v (n - 1)) → hd ≤ r → v ≤ n - 1
     → Falls d v (n - 1 - v) (r - hd) i rest → c ≡ count d v i
@@ -178,6 +194,18 @@ module _ {d : Bool} {v i x : ℕ} {old L1 : List ℕ} {a : ℕ} (n : ℕ) (pos :
   pub first-length : length (set L1 a 69) ≡ length old
   first-length = L2-length old L1 (print d v (build d v i i x)) a (p .shown) (p .long) (omega (arith, first-room))
 
+  pub first-before : a < length old
+  first-before = omega (arith, first-room)
+
+  pub first-in : a < length L1
+  first-in = omega (arith, first-room, first-length, length-set L1 a 69)
+
+  pub first-to : a + 1 ≤ length (set L1 a 69)
+  first-to = omega (arith, first-room, first-length)
+
+  pub first-fits : n ≤ 64 → a + 1 < 2 ^ 64
+  first-fits h = omega (arith, p .short)
+
   part-length : length (take (length (set L1 a 69) - (a + 1)) (drop (a + 1) (set L1 a 69))) ≡ length old - (a + 1)
   part-length = ap length (part-is old L1 (print d v (build d v i i x)) a (p .shown) (p .long) (omega (arith, first-room))) ∙ length-drop (a + 1) old
 
@@ -187,6 +215,12 @@ module _ {d : Bool} {v i x : ℕ} {old L1 : List ℕ} {a : ℕ} (n : ℕ) (pos :
   module _ {y : ℕ} {Q : List ℕ} {b : ℕ} (q : Written d v (n - 1 - v - i) y (take (length (set L1 a 69) - (a + 1)) (drop (a + 1) (set L1 a 69))) Q b) where
     second-room : a + 1 + b + 1 ≤ n + n
     second-room = omega (arith, p .short, q .short)
+
+    pub second-before : a + 1 + b < length old
+    second-before = omega (arith, second-room)
+
+    pub second-fits : n ≤ 64 → (a + 1 + b < 2 ^ 64) × (a + 1 + b + 1 < 2 ^ 64)
+    second-fits h = (omega (arith, second-room), omega (arith, second-room))
 
     pub rooms : Rooms n old L1 Q a b
     rooms =

@@ -11,12 +11,12 @@
 --   Along, row-.., along-.., next-..             the loop along a row
 --   rowing-of, risen-of, risen-over, rows-over   the loop over the rows, and where a count doesn't fit
 use mathlib.Core.Path.{_≡_, refl, sym, ap, ap₂, _∙_, subst}
-use mathlib.Core.Logic.{_⊎_, inl, inr}
+use mathlib.Core.Logic.{inl, inr}
 use mathlib.Core.Bool.{Bool, true, false}
 use mathlib.Core.List.{List}
 use Prim.Native.Nat.{ℕ, zero, suc, _+_, _-_, _*_, _^_, _≤_, _<_}
 use native.Mathlib.Decide.{decLe, decLt, ℕ-discrete}
-use native.Mathlib.Nat.{le-trans, le-refl}
+use native.Mathlib.Nat.{le-trans}
 use native.Mathlib.Omega.{arith}
 use lib.Dec.{T, eqb}
 use lib.ListN.{length, getD, set, length-set}
@@ -29,7 +29,7 @@ use Rattle.grid.specs.Form.{W, via}
 use Rattle.grid.specs.Cells.{strideOf, place}
 use Rattle.grid.specs.Table.{Plan, Ends, Ready}
 use Rattle.grid.specs.Filling.{Got, Filled}
-use Rattle.grid.specs.Rows.{Rises, Corner, Cornered, Done, Rows, Rowing, Rowed, Risen}
+use Rattle.grid.specs.Rows.{Rises, Corner, Cornered, Done, Rows, Rowing, Risen}
 use Rattle.grid.proofs.Laws.{via-left, via-under, via-in, W-start, W-step, cap-ge}
 use Rattle.grid.proofs.Counts.{pos-of, W-high}
 use Rattle.grid.proofs.Columns.{grow, one-more}

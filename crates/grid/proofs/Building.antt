@@ -8,7 +8,7 @@ use mathlib.Core.Path.{_≡_, refl, sym, ap, ap₂, _∙_}
 use mathlib.Core.Bool.{Bool}
 use mathlib.Core.Option.{Option, some}
 use mathlib.Core.List.{List, [], _∷_, _++_, map, reverse, reverse-cons, reverse-reverse, append-nil}
-use Prim.Native.Nat.{ℕ, zero, suc, _+_, _-_, _*_, _≤_, _<_}
+use Prim.Native.Nat.{ℕ, zero, suc, _+_, _-_, _*_, _^_, _≤_, _<_}
 use native.Mathlib.Omega.{arith}
 use native.Mathlib.Decide.{decLe}
 use native.Mathlib.Nat.{not-suc-le-zero}
@@ -128,10 +128,13 @@ pub record Writing (corner few : Bool) (k f : ℕ) (sa sc off : List ℕ) (hi m 
 
 pub record Written (corner few : Bool) (k f : ℕ) (sa sc off : List ℕ) (hi m ex ey : ℕ) (val : List ℕ) (r : ℕ) (buf₀ buf : List ℕ) (x y p s l rest : ℕ) : Type 0 where
   pub below : l < 8
+  pub byte : l * 8 < 2 ^ 64
+  pub least : 1 ≤ s
+  pub inside : s - 1 < length buf
   pub right : getD sa l 0 ≤ x
   pub up : getD sc l 0 ≤ y
   pub far : getD off l 0 ≤ p
-  pub ahead : 1 ≤ getD sa l 0
+  pub ahead : x - getD sa l 0 < x
   pub next : (v : ℕ) → v ≡ glyphOf corner l → Writing corner few k f sa sc off hi m ex ey val r buf₀ (set buf (s - 1) v) (x - getD sa l 0) (y - getD sc l 0) (p - getD off l 0) rest (s - 1)
 
 module _ {corner few : Bool} {k f : ℕ} {sa sc off : List ℕ} {hi m ex ey : ℕ} {val : List ℕ} {r : ℕ} {buf₀ : List ℕ} where
@@ -171,10 +174,13 @@ module _ {corner few : Bool} {k f : ℕ} {sa sc off : List ℕ} {hi m ex ey : �
       pub written : (l rest : ℕ) → Sought (via k f sa sc x y) k left l rest → Written corner few k f sa sc off hi m ex ey val r buf₀ buf x y p s l rest
       written l rest so = record {
         below = omega (arith, plan-of .most, so .falls .inside);
+        byte = omega (arith, plan-of .most, so .falls .inside);
+        least = omega (arith, w .x-le);
+        inside = omega (arith, w .x-le, w .s-le, w .room);
         right = vp .0;
         up = vp .1;
         far = reads-of .back l (so .falls .inside) (vp .0);
-        ahead = go-on;
+        ahead = omega (arith, vp .0, go-on);
         next = λ v ev. record {
           spelling = w .spelling;
           stand = stand-back (w .spelling .ready) (w .spelling .solid) (w .stand) px inside-of l _ _ _ (so .falls .inside) refl refl refl (vp .0) (vp .1);

@@ -5,7 +5,7 @@
 --   num, num-all, num-none, num-step, num-below    the number of the first i letters, to (x, y)
 --   reads-at, stand-back         what can be read at a cell that stands before the end, and one step back
 --   read-in, read-is, read-more  the loop of `part_sum`
---   Walking, walking-start, stepped, walking-end   the loop of `rank`
+--   Walking, walking-start, last-in, stepped, walking-end   the loop of `rank`
 use mathlib.Core.Path.{_≡_, refl, sym, ap, _∙_}
 use mathlib.Core.Bool.{Bool, true, false}
 use mathlib.Core.List.{List, _∷_}
@@ -163,8 +163,10 @@ pub record Walking (corner few : Bool) (k f : ℕ) (sa sc off : List ℕ) (hi m 
   pub total : acc + num corner k f sa sc e i x y ≡ numberOf corner k f sa sc ex ey e
 
 pub record Stepped (corner few : Bool) (k f : ℕ) (sa sc off : List ℕ) (hi m ex ey : ℕ) (val e : List ℕ) (acc x y p i l : ℕ) : Type 0 where
-  pub below : l < k
-  pub most : k ≤ 8
+  pub fewer : i - 1 < i
+  pub below : l ≤ k
+  pub eight : l < 8
+  pub byte : l * 8 < 2 ^ 64
   pub reads : Reads k f sa sc off val x y p
   pub right : getD sa l 0 ≤ x
   pub up : getD sc l 0 ≤ y
@@ -186,10 +188,15 @@ module _ {corner few : Bool} {k f : ℕ} {sa sc off : List ℕ} {hi m ex ey : �
   number-small rk = omega (arith, rk .fits, num-all corner k f sa sc e ex ey, num-below corner k f sa sc e (pos-of (rk .ready .plan)) (length e) ex ey (ok-all corner k f sa sc e ex ey ∙ rk .valid))
 
   module _ {acc x y p i : ℕ} (w : Walking corner few k f sa sc off hi m ex ey val e acc x y p i) where
+    pub last-in : 0 < i → i - 1 < length e
+    last-in h = omega (arith, w .i-le)
+
     pub stepped : (l : ℕ) → 0 < i → l ≡ placeOf corner (getD e (i - 1) 0) → Stepped corner few k f sa sc off hi m ex ey val e acc x y p i l
     stepped l h q = record {
-      below = re .below;
-      most = pl .most;
+      fewer = omega arith;
+      below = omega (arith, re .below);
+      eight = omega (arith, re .below, pl .most);
+      byte = omega (arith, re .below, pl .most);
       reads = rd;
       right = re .right;
       up = re .up;

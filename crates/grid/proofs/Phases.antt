@@ -1,8 +1,10 @@
 -- What the functions that fill the table have at each of their places. Assumes nothing.
 --
 --   ready-len                              ready, for another table of that length
+--   place-sum                              a cell's place, summed from the left
+--   Placed, placed, end-placed             the sums on the way to a cell's place fit, and the end's
 --   first-in, begin-table, begin-small, begin-ready    `fast`, before its loop
---   slow-fits, none-yet, inside-at, parts-of, part-more, slow-done    `slow`
+--   slow-placed, none-yet, inside-at, put-in, parts-of, part-more, slow-done    `slow`
 --   said                                   `total`, at a step
 --   turn-none, turn-slow                   `turn`
 --   resume                                 flags put beside a table
@@ -24,7 +26,7 @@ use Rattle.grid.specs.declared.Answer.{Answer}
 use Rattle.grid.specs.declared.Answer.the-variants.{Count}
 use Rattle.grid.specs.Form.{W, via}
 use Rattle.grid.specs.Cells.{capOf, cellAt, Put, strideOf, place, sourceOf}
-use Rattle.grid.specs.Table.{Prepared, Ready, From, To, Cells, Table, Flagged, Small}
+use Rattle.grid.specs.Table.{Sizes, Prepared, Ready, From, To, Cells, Table, Flagged, Small}
 use Rattle.grid.specs.Filling.{Begun, Got, Turn, Slow, Part, Parts, Filled}
 use Rattle.grid.proofs.Laws.{W-start, mul-bound, cap-lt, cell-zero}
 use Rattle.grid.proofs.Counts.{pos-of, W-all}
@@ -32,6 +34,31 @@ use Rattle.grid.proofs.Columns.{source-left, source-in, rows, grow, one
 
 pub ready-len : {few : Bool} {k f : ℕ} {sa sc off : List ℕ} {hi m ex ey size size′ : ℕ} → Prepared few k f sa sc off hi m ex ey size → size′ ≡ size → Prepared few k f sa sc off hi m ex ey size′
 ready-len r e = record { sizes = r .sizes; plan = r .plan; offs = r .offs; fewer = r .fewer; room = rw e (r .room) }
+
+pub place-sum : (m ey x y : ℕ) → (x + 1) * (m + ey + 1) + m + y ≡ place m ey x y
+place-sum m ey x y = omega arith
+
+-- the sums on the way to the place of height y of column x, and its byte
+pub record Placed (m ey x y : ℕ) : Type 0 where
+  pub next : x + 1 < 2 ^ 64
+  pub above : y + 1 < 2 ^ 64
+  pub tall : m + ey < 2 ^ 64
+  pub stride : m + ey + 1 < 2 ^ 64
+  pub column : (x + 1) * (m + ey + 1) < 2 ^ 64
+  pub base : (x + 1) * (m + ey + 1) + m < 2 ^ 64
+  pub cell : (x + 1) * (m + ey + 1) + m + y < 2 ^ 64
+  pub byte : ((x + 1) * (m + ey + 1) + m + y) * 8 < 2 ^ 64
+
+placed-from : (m ey x y : ℕ) → m ≤ 1000 → ey ≤ 1000 → x ≤ 97 → y ≤ 1000 → (x + 1) * (m + ey + 1) ≤ 98 * 2001 → Placed m ey x y
+placed-from m ey x y lm le lx ly h = record { next = omega arith; above = omega arith; tall = omega arith; stride = omega arith; column = omega arith; base = omega arith; cell = omega arith; byte = omega arith }
+
+pub placed : {f hi m ex ey : ℕ} → Sizes f hi m ex ey → (x y : ℕ) → x ≤ ex → y ≤ ey → Placed m ey x y
+placed {f} {hi} {m} {ex} {ey} s x y lx ly =
+    placed-from m ey x y (s .m-le) (s .ey-le) (omega (arith, s .ex-le)) (omega (arith, s .ey-le))
+    (mul-bound (x + 1) (m + ey + 1) 98 2001 (omega (arith, s .ex-le)) (omega (arith, s .m-le, s .ey-le)))
+
+pub end-placed : {f hi m ex ey : ℕ} → Sizes f hi m ex ey → Placed m ey ex ey
+end-placed {f} {hi} {m} {ex} {ey} s = placed s ex ey (omega arith) (omega arith)
 
 -- fast
 
@@ -84,8 +111,8 @@ module _ {few : Bool} {k f : ℕ} {sa sc off : List ℕ} {hi m ex ey : ℕ} {val
 -- slow
 
 module _ {few : Bool} {k f : ℕ} {sa sc off : List ℕ} {hi m ex ey : ℕ} {val₀ ov₀ : List ℕ} {x from to : ℕ} (s : Slow few k f sa sc off hi m ex ey val₀ ov₀ x from to) where
-  pub slow-fits : (x + 1) * strideOf m ey ≤ 98 * 2001
-  slow-fits = mul-bound (x + 1) (strideOf m ey) 98 2001 (omega (arith, s .turn .end, s .turn .ready .sizes .ex-le)) (omega (arith, s .turn .ready .sizes .m-le, s .turn .ready .sizes .ey-le))
+  pub slow-placed : (y : ℕ) → y < to → Placed m ey x y
+  slow-placed y l = placed (s .turn .ready .sizes) x y (s .turn .end) (omega (arith, s .up .under))
 
   pub none-yet : Part k f sa sc m ey x from val₀ ov₀ val₀ ov₀ from
   none-yet = record { before = λ j l. refl; after = λ j l. refl; here = λ t h l. absurd (omega arith) }
@@ -93,6 +120,9 @@ module _ {few : Bool} {k f : ℕ} {sa sc off : List ℕ} {hi m ex ey : ℕ} {val
   module _ {val ov : List ℕ} {y : ℕ} (p : Part k f sa sc m ey x from val₀ ov₀ val ov y) (lf : from ≤ y) (lt : y < to) where
     pub inside-at : place m ey x y < (ex + 2) * strideOf m ey
     inside-at = omega (arith, s .up .under, one-more (strideOf m ey) (x + 1), grow (strideOf m ey) (x + 1 + 1) (ex + 2) (omega (arith, s .turn .end)))
+
+    pub put-in : length val ≡ length val₀ → length ov ≡ length ov₀ → ((x + 1) * (m + ey + 1) + m + y < length val) × ((x + 1) * (m + ey + 1) + m + y < length ov)
+    put-in lv lo = (omega (arith, inside-at, s .turn .ready .room), omega (arith, inside-at, s .turn .room))
 
     source-lt : (i : ℕ) → i < 8 → sourceOf sa off x (place m ey x y) i < place m ey x from
     source-lt i l =

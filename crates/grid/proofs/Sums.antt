@@ -5,10 +5,12 @@
 --   sum4, sum8                             the sum of a turn is the cell's, and fits
 --   Parts4, parts4, Parts8, parts8         the sums on the way to it fit too
 --   at-fits, at-byte, at-in                the cells of a run can be read, to-fits, to-byte, to-in: and written
+--   below-4, below-8                       the numbers of the runs
+--   start-in, no-cell, more-le, more-fits, fewer-left, all-of    a run's start, and how many of its cells are done
 --   high-le, above-fits                    the bits above 2^61, and their sum
 use mathlib.Core.Path.{_≡_, refl, sym, _∙_}
 use mathlib.Core.List.{List}
-use Prim.Native.Nat.{ℕ, _+_, _*_, _/_, _^_, _≤_, _<_}
+use Prim.Native.Nat.{ℕ, _+_, _-_, _*_, _/_, _^_, _≤_, _<_}
 use native.Mathlib.Omega.{arith}
 use native.Mathlib.Nat.{not-suc-le-zero}
 use lib.ListN.{length, getD, set}
@@ -143,6 +145,31 @@ module _ (i n d l l₀ : ℕ) (h : i < n) (r : d + n ≤ l₀) (q : l ≡ l₀) 
 
   pub to-in : d + i < l
   to-in = omega arith
+
+pub below-4 : (0 < 4) × (1 < 4) × (2 < 4) × (3 < 4)
+below-4 = (omega arith, omega arith, omega arith, omega arith)
+
+pub below-8 : (0 < 8) × (1 < 8) × (2 < 8) × (3 < 8) × (4 < 8) × (5 < 8) × (6 < 8) × (7 < 8)
+below-8 = (omega arith, omega arith, omega arith, omega arith, omega arith, omega arith, omega arith, omega arith)
+
+pub start-in : (s t n d : ℕ) → s ≡ t → t + n ≤ d → s + n ≤ d
+start-in s t n d e l = omega arith
+
+pub no-cell : (n : ℕ) → 0 ≤ n
+no-cell n = omega arith
+
+module _ (i n : ℕ) (h : i < n) where
+  pub more-le : i + 1 ≤ n
+  more-le = omega arith
+
+  pub more-fits : (d : ℕ) → (d + n) * 8 < 2 ^ 64 → i + 1 < 2 ^ 64
+  more-fits d b = omega arith
+
+  pub fewer-left : n - (i + 1) < n - i
+  fewer-left = omega arith
+
+pub all-of : (i n : ℕ) → i ≤ n → n ≤ i → i ≡ n
+all-of i n l h = omega arith
 
 pub high-le : (v : ℕ) → v < 2 ^ 64 → v / 2305843009213693952 ≤ 7
 high-le v l = omega arith

@@ -1,10 +1,11 @@
 -- The size falls at each part; what is written between the calls is kept, since each call leaves what is behind its path.
 use mathlib.Core.Path.{_∙_}
-use native.Mathlib.Omega.{arith}
+use native.Mathlib.Nat.{le-refl, le-trans, lt-of-le-of-lt}
 use lib.ListN.{getD, length-set}
+use Rattle.arch.proofs.Sizes.{not-none, one-less, one-le, falls-other, falls-less, room-less, byte-fits, number-some, number-last, span-less, first-le, first-less, second-le, second-less}
 use Rattle.arch.proofs.Tables.{table-less}
 use Rattle.arch.proofs.Spots.{above}
-use Rattle.arch.proofs.Writing.{written-none, written-length, written-dee, written-arch, wide, with-d, spot-pos, spot-rem, spot-quot, first-room, first-length, part-room, rooms}
+use Rattle.arch.proofs.Writing.{written-none, written-length, written-dee, written-arch, wide, with-d, spot-pos, spot-rem, spot-quot, dee-room, dee-length, dee-in, dee-fits, first-before, first-in, first-to, first-fits, part-room, second-before, second-fits, rooms}
 use Prim.Native.Nat.{ℕ, _+_, _-_, _*_, _≤_, _<_}
 use borrow.Fn.Kinds.{In}
 use borrow.Fn.PlainCycle.{Measures, is, falls, and}
@@ -49,14 +50,15 @@ build-ending-requires :
     (t : ℕ) → build-lts.Need-ending-requires (ending-below t, ending.Post) (build-at t) build.Post
 build-ending-requires t c κs =
     let pre = c .before .before .before .before .pre in
-    (omega arith, (pre .1 .0, pre .1 .1, pre .1 .2, omega arith))
+    (falls-other _ _ (pre .0), (pre .1 .0, pre .1 .1, pre .1 .2, not-none _ (c .before .if1 .left)))
 
 build-same-length :
     (t : ℕ) → build-lts.Need-same-length (ending-below t, ending.Post) (build-at t) build.Post
 build-same-length t c =
     let args = c .before .before .before .before .before .before .before .args in
+    let pre = c .before .before .before .before .before .before .before .pre in
     let ending = c .before .before .ending in
-    written-length (args .d) (args .v) (args .n) (args .r) (args .out .now) (ending .last .0) (ending .result) (ending .ensures) (omega (arith, (ending .ensures .short)))
+    written-length (args .d) (args .v) (args .n) (args .r) (args .out .now) (ending .last .0) (ending .result) (ending .ensures) (le-trans (ending .ensures .short) (pre .1 .2))
 
 build-returns-2 :
     (t : ℕ) → build-lts.Need-returns-2 (ending-below t, ending.Post) (build-at t) build.Post
@@ -74,7 +76,8 @@ ending-sub-d-count : (t : ℕ) → ending-lts.Need-sub-d-count (
   times-reads.Asked,
   times-reads.Learnt,
 ) (ending-at t) ending.Post
-ending-sub-d-count t c = omega arith
+ending-sub-d-count t c =
+    c .before .before .pre .1 .3
 
 ending-d-count-requires : (t : ℕ) → ending-lts.Need-d-count-requires (
   d-count-reads.Asked,
@@ -88,7 +91,7 @@ ending-d-count-requires : (t : ℕ) → ending-lts.Need-d-count-requires (
   times-reads.Asked,
   times-reads.Learnt,
 ) (ending-at t) ending.Post
-ending-d-count-requires t c κs = (c .before .before .pre .1 .0, omega arith)
+ending-d-count-requires t c κs = (c .before .before .pre .1 .0, one-le _)
 
 ending-sub-build : (t : ℕ) → ending-lts.Need-sub-build (
   d-count-reads.Asked,
@@ -102,7 +105,8 @@ ending-sub-build : (t : ℕ) → ending-lts.Need-sub-build (
   times-reads.Asked,
   times-reads.Learnt,
 ) (ending-at t) ending.Post
-ending-sub-build t c = omega arith
+ending-sub-build t c =
+    c .before .before .before .before .before .pre .1 .3
 
 ending-build-requires : (t : ℕ) → ending-lts.Need-build-requires (
   d-count-reads.Asked,
@@ -120,7 +124,7 @@ ending-build-requires t c κs =
     let args = c .before .before .before .before .before .args in
     let pre = c .before .before .before .before .before .pre in
     let d-count = c .before .before .d-count in
-    (omega arith, (table-less (args .d) (args .v) (args .n) ((args .n) - 1) (args .table .now) (omega arith) (pre .1 .0), with-d (args .d) (args .v) (args .n) (args .r) (d-count .result) (omega arith) (d-count .ensures) (pre .1 .1) (c .before .if1 .taken) .1, omega arith))
+    (falls-less _ _ _ (pre .0) (one-less _ (pre .1 .3)), (table-less (args .d) (args .v) (args .n) ((args .n) - 1) (args .table .now) (one-le _) (pre .1 .0), with-d (args .d) (args .v) (args .n) (args .r) (d-count .result) (pre .1 .3) (d-count .ensures) (pre .1 .1) (c .before .if1 .taken) .1, room-less _ (args .n) _ (one-le _) (pre .1 .2)))
 
 ending-slice-write-out : (t : ℕ) → ending-lts.Need-slice-write-out (
   d-count-reads.Asked,
@@ -136,8 +140,9 @@ ending-slice-write-out : (t : ℕ) → ending-lts.Need-slice-write-out (
 ) (ending-at t) ending.Post
 ending-slice-write-out t c =
     let args = c .before .before .before .before .before .before .before .before .args in
+    let pre = c .before .before .before .before .before .before .before .before .pre in
     let build = c .before .before .build in
-    omega (arith, (build .ensures .short), written-length (args .d) (args .v) ((args .n) - 1) (args .r) (args .out .now) (build .last .0) (build .result) (build .ensures) (omega (arith, (build .ensures .short))))
+    dee-in (args .n) (pre .1 .3) (pre .1 .2) (build .ensures)
 
 ending-add-result : (t : ℕ) → ending-lts.Need-add-result (
   d-count-reads.Asked,
@@ -152,8 +157,10 @@ ending-add-result : (t : ℕ) → ending-lts.Need-add-result (
   times-reads.Learnt,
 ) (ending-at t) ending.Post
 ending-add-result t c =
+    let args = c .before .before .before .before .before .before .before .before .args in
     let pre = c .before .before .before .before .before .before .before .before .pre in
-    omega (arith, (c .before .before .build .ensures .short), pre .1 .0 .small)
+    let build = c .before .before .build in
+    record { fits = dee-fits (args .n) (pre .1 .3) (pre .1 .2) (build .ensures) (pre .1 .0 .small) }
 
 ending-same-length : (t : ℕ) → ending-lts.Need-same-length (
   d-count-reads.Asked,
@@ -169,8 +176,9 @@ ending-same-length : (t : ℕ) → ending-lts.Need-same-length (
 ) (ending-at t) ending.Post
 ending-same-length t c =
     let args = c .before .before .before .before .before .before .before .before .args in
+    let pre = c .before .before .before .before .before .before .before .before .pre in
     let build = c .before .before .build in
-    length-set (build .last .0) (build .result) _ ∙ written-length (args .d) (args .v) ((args .n) - 1) (args .r) (args .out .now) (build .last .0) (build .result) (build .ensures) (omega (arith, (build .ensures .short)))
+    length-set (build .last .0) (build .result) _ ∙ dee-length (args .n) (pre .1 .3) (pre .1 .2) (build .ensures)
 
 ending-returns : (t : ℕ) → ending-lts.Need-returns (
   d-count-reads.Asked,
@@ -190,7 +198,7 @@ ending-returns t c =
     let d-count = c .before .before .before .before .before .d-count in
     let if1 = c .before .before .before .before .if1 in
     let build = c .before .before .build in
-    written-dee (args .d) (args .v) (args .n) (args .r) (args .out .now) (build .last .0) (build .result) (omega arith) (with-d (args .d) (args .v) (args .n) (args .r) (d-count .result) (omega arith) (d-count .ensures) (pre .1 .1) (if1 .taken) .0) (with-d (args .d) (args .v) (args .n) (args .r) (d-count .result) (omega arith) (d-count .ensures) (pre .1 .1) (if1 .taken) .1) (pre .1 .1) (build .ensures) (omega (arith, build .ensures .short))
+    written-dee (args .d) (args .v) (args .n) (args .r) (args .out .now) (build .last .0) (build .result) (pre .1 .3) (with-d (args .d) (args .v) (args .n) (args .r) (d-count .result) (pre .1 .3) (d-count .ensures) (pre .1 .1) (if1 .taken) .0) (with-d (args .d) (args .v) (args .n) (args .r) (d-count .result) (pre .1 .3) (d-count .ensures) (pre .1 .1) (if1 .taken) .1) (pre .1 .1) (build .ensures) (dee-room (args .n) (pre .1 .3) (pre .1 .2) (build .ensures))
 
 ending-sub-m : (t : ℕ) → ending-lts.Need-sub-m (
   d-count-reads.Asked,
@@ -204,7 +212,8 @@ ending-sub-m : (t : ℕ) → ending-lts.Need-sub-m (
   times-reads.Asked,
   times-reads.Learnt,
 ) (ending-at t) ending.Post
-ending-sub-m t c = omega arith
+ending-sub-m t c =
+    c .before .before .before .before .pre .1 .3
 
 ending-sub-m-2 : (t : ℕ) → ending-lts.Need-sub-m-2 (
   d-count-reads.Asked,
@@ -222,7 +231,7 @@ ending-sub-m-2 t c =
     let args = c .before .before .before .before .args in
     let pre = c .before .before .before .before .pre in
     let d-count = c .before .d-count in
-    wide (args .d) (args .v) (args .n) (args .r) (d-count .result) (omega arith) (d-count .ensures) (pre .1 .1) (c .if1 .left)
+    wide (args .d) (args .v) (args .n) (args .r) (d-count .result) (pre .1 .3) (d-count .ensures) (pre .1 .1) (c .if1 .left)
 
 ending-mul-locate : (t : ℕ) → ending-lts.Need-mul-locate (
   d-count-reads.Asked,
@@ -238,7 +247,7 @@ ending-mul-locate : (t : ℕ) → ending-lts.Need-mul-locate (
 ) (ending-at t) ending.Post
 ending-mul-locate t c =
     let pre = c .before .before .before .before .pre in
-    omega (arith, pre .1 .0 .small)
+    record { fits = byte-fits _ _ (le-refl _) (pre .1 .0 .small) }
 
 ending-shared-slice-read-locate : (t : ℕ) → ending-lts.Need-shared-slice-read-locate (
   d-count-reads.Asked,
@@ -253,8 +262,7 @@ ending-shared-slice-read-locate : (t : ℕ) → ending-lts.Need-shared-slice-rea
   times-reads.Learnt,
 ) (ending-at t) ending.Post
 ending-shared-slice-read-locate t c =
-    let pre = c .before .before .before .before .before .pre in
-    omega (arith, pre .1 .0 .long)
+    c .before .before .before .before .before .pre .1 .0 .long
 
 ending-sub-locate : (t : ℕ) → ending-lts.Need-sub-locate (
   d-count-reads.Asked,
@@ -271,7 +279,7 @@ ending-sub-locate : (t : ℕ) → ending-lts.Need-sub-locate (
 ending-sub-locate t c =
     let pre = c .before .before .before .before .before .pre in
     let args = c .before .before .before .before .before .args in
-    omega (arith, pre .1 .0 .full (args .n) (omega arith), pre .1 .1)
+    number-some _ _ _ (pre .1 .0 .full (args .n) (le-refl (args .n))) (pre .1 .1)
 
 ending-sub-locate-2 : (t : ℕ) → ending-lts.Need-sub-locate-2 (
   d-count-reads.Asked,
@@ -288,7 +296,7 @@ ending-sub-locate-2 : (t : ℕ) → ending-lts.Need-sub-locate-2 (
 ending-sub-locate-2 t c =
     let pre = c .before .before .before .before .before .pre in
     let args = c .before .before .before .before .before .args in
-    omega (arith, pre .1 .0 .full (args .n) (omega arith), pre .1 .1)
+    number-last _ _ _ (pre .1 .0 .full (args .n) (le-refl (args .n))) (pre .1 .1)
 
 ending-locate-requires : (t : ℕ) → ending-lts.Need-locate-requires (
   d-count-reads.Asked,
@@ -307,7 +315,7 @@ ending-locate-requires t c κs =
     let pre = c .before .before .before .before .before .pre in
     let d-count = c .before .before .d-count in
     let if1 = c .before .if1 in
-    let w : (args .v) ≤ (args .n) - 1 = wide (args .d) (args .v) (args .n) (args .r) (d-count .result) (omega arith) (d-count .ensures) (pre .1 .1) (if1 .left) in (pre .1 .0, omega arith, above (args .d) (args .v) (args .n) (args .r) (d-count .result) _ (omega arith) w (d-count .ensures) (pre .1 .0 .full (args .n) (omega arith)) (pre .1 .1) (if1 .left))
+    let w : (args .v) ≤ (args .n) - 1 = wide (args .d) (args .v) (args .n) (args .r) (d-count .result) (pre .1 .3) (d-count .ensures) (pre .1 .1) (if1 .left) in (pre .1 .0, span-less _ _ (pre .1 .3) w, above (args .d) (args .v) (args .n) (args .r) (d-count .result) _ (pre .1 .3) w (d-count .ensures) (pre .1 .0 .full (args .n) (le-refl (args .n))) (pre .1 .1) (if1 .left))
 
 ending-mul-c : (t : ℕ) → ending-lts.Need-mul-c (
   d-count-reads.Asked,
@@ -322,10 +330,8 @@ ending-mul-c : (t : ℕ) → ending-lts.Need-mul-c (
   times-reads.Learnt,
 ) (ending-at t) ending.Post
 ending-mul-c t c =
-    let args = c .before .before .before .before .before .before .args in
     let pre = c .before .before .before .before .before .before .pre in
-    let d-count = c .before .before .before .d-count in
-    let w : (args .v) ≤ (args .n) - 1 = wide (args .d) (args .v) (args .n) (args .r) (d-count .result) (omega arith) (d-count .ensures) (pre .1 .1) (c .before .before .if1 .left) in omega (arith, pre .1 .0 .small)
+    record { fits = byte-fits _ _ (first-le _ _ _ (c .locate .ensures .below)) (pre .1 .0 .small) }
 
 ending-shared-slice-read-c : (t : ℕ) → ending-lts.Need-shared-slice-read-c (
   d-count-reads.Asked,
@@ -340,11 +346,8 @@ ending-shared-slice-read-c : (t : ℕ) → ending-lts.Need-shared-slice-read-c (
   times-reads.Learnt,
 ) (ending-at t) ending.Post
 ending-shared-slice-read-c t c =
-    let args = c .before .before .before .before .before .before .before .args in
     let pre = c .before .before .before .before .before .before .before .pre in
-    let d-count = c .before .before .before .before .d-count in
-    let if1 = c .before .before .before .if1 in
-    let w : (args .v) ≤ (args .n) - 1 = wide (args .d) (args .v) (args .n) (args .r) (d-count .result) (omega arith) (d-count .ensures) (pre .1 .1) (if1 .left) in omega (arith, pre .1 .0 .long)
+    lt-of-le-of-lt (first-le _ _ _ (c .before .locate .ensures .below)) (pre .1 .0 .long)
 
 ending-left-over-requires : (t : ℕ) → ending-lts.Need-left-over-requires (
   d-count-reads.Asked,
@@ -359,12 +362,9 @@ ending-left-over-requires : (t : ℕ) → ending-lts.Need-left-over-requires (
   times-reads.Learnt,
 ) (ending-at t) ending.Post
 ending-left-over-requires t c κs =
-    let args = c .before .before .before .before .before .before .before .args in
     let pre = c .before .before .before .before .before .before .before .pre in
-    let d-count = c .before .before .before .before .d-count in
-    let if1 = c .before .before .before .if1 in
     let locate = c .before .locate in
-    let w : (args .v) ≤ (args .n) - 1 = wide (args .d) (args .v) (args .n) (args .r) (d-count .result) (omega arith) (d-count .ensures) (pre .1 .1) (if1 .left) in spot-pos (locate .ensures) (pre .1 .0 .full (locate .result .at) (omega arith))
+    spot-pos (locate .ensures) (pre .1 .0 .full (locate .result .at) (first-le _ _ _ (locate .ensures .below)))
 
 ending-times-requires : (t : ℕ) → ending-lts.Need-times-requires (
   d-count-reads.Asked,
@@ -379,12 +379,9 @@ ending-times-requires : (t : ℕ) → ending-lts.Need-times-requires (
   times-reads.Learnt,
 ) (ending-at t) ending.Post
 ending-times-requires t c κs =
-    let args = c .before .before .before .before .before .before .before .before .args in
     let pre = c .before .before .before .before .before .before .before .before .pre in
-    let d-count = c .before .before .before .before .before .d-count in
-    let if1 = c .before .before .before .before .if1 in
     let locate = c .before .before .locate in
-    let w : (args .v) ≤ (args .n) - 1 = wide (args .d) (args .v) (args .n) (args .r) (d-count .result) (omega arith) (d-count .ensures) (pre .1 .1) (if1 .left) in spot-pos (locate .ensures) (pre .1 .0 .full (locate .result .at) (omega arith))
+    spot-pos (locate .ensures) (pre .1 .0 .full (locate .result .at) (first-le _ _ _ (locate .ensures .below)))
 
 ending-build-requires-2 : (t : ℕ) → ending-lts.Need-build-requires-2 (
   d-count-reads.Asked,
@@ -401,10 +398,8 @@ ending-build-requires-2 : (t : ℕ) → ending-lts.Need-build-requires-2 (
 ending-build-requires-2 t c κs =
     let args = c .before .before .before .before .before .before .before .before .before .before .args in
     let pre = c .before .before .before .before .before .before .before .before .before .before .pre in
-    let d-count = c .before .before .before .before .before .before .before .d-count in
-    let if1 = c .before .before .before .before .before .before .if1 in
     let locate = c .before .before .before .before .locate in
-    let w : (args .v) ≤ (args .n) - 1 = wide (args .d) (args .v) (args .n) (args .r) (d-count .result) (omega arith) (d-count .ensures) (pre .1 .1) (if1 .left) in (omega arith, (table-less (args .d) (args .v) (args .n) (locate .result .at) (args .table .now) (omega arith) (pre .1 .0), rw (c .before .before .left-over .ensures) (spot-rem (locate .ensures) (pre .1 .0 .full (locate .result .at) (omega arith))), omega arith))
+    (falls-less _ _ _ (pre .0) (first-less _ _ _ (pre .1 .3) (locate .ensures .below)), (table-less (args .d) (args .v) (args .n) (locate .result .at) (args .table .now) (first-le _ _ _ (locate .ensures .below)) (pre .1 .0), rw (c .before .before .left-over .ensures) (spot-rem (locate .ensures) (pre .1 .0 .full (locate .result .at) (first-le _ _ _ (locate .ensures .below)))), room-less _ (args .n) _ (first-le _ _ _ (locate .ensures .below)) (pre .1 .2)))
 
 ending-slice-write-out-2 : (t : ℕ) → ending-lts.Need-slice-write-out-2 (
   d-count-reads.Asked,
@@ -425,7 +420,7 @@ ending-slice-write-out-2 t c =
     let if1 = c .before .before .before .before .before .before .before .before .before .if1 in
     let locate = c .before .before .before .before .before .before .before .locate in
     let build2 = c .before .before .build2 in
-    let w : (args .v) ≤ (args .n) - 1 = wide (args .d) (args .v) (args .n) (args .r) (d-count .result) (omega arith) (d-count .ensures) (pre .1 .1) (if1 .left) in omega (arith, first-room (args .n) (omega arith) w (pre .1 .2) ((locate .ensures) .below) (build2 .ensures), first-length (args .n) (omega arith) w (pre .1 .2) ((locate .ensures) .below) (build2 .ensures), length-set (build2 .last .0) (build2 .result) 69)
+    let w : (args .v) ≤ (args .n) - 1 = wide (args .d) (args .v) (args .n) (args .r) (d-count .result) (pre .1 .3) (d-count .ensures) (pre .1 .1) (if1 .left) in first-in (args .n) (pre .1 .3) w (pre .1 .2) ((locate .ensures) .below) (build2 .ensures)
 
 ending-add-from : (t : ℕ) → ending-lts.Need-add-from (
   d-count-reads.Asked,
@@ -445,7 +440,7 @@ ending-add-from t c =
     let d-count = c .before .before .before .before .before .before .before .before .before .before .d-count in
     let if1 = c .before .before .before .before .before .before .before .before .before .if1 in
     let locate = c .before .before .before .before .before .before .before .locate in
-    let w : (args .v) ≤ (args .n) - 1 = wide (args .d) (args .v) (args .n) (args .r) (d-count .result) (omega arith) (d-count .ensures) (pre .1 .1) (if1 .left) in omega (arith, first-room (args .n) (omega arith) w (pre .1 .2) ((locate .ensures) .below) (c .before .before .build2 .ensures))
+    let w : (args .v) ≤ (args .n) - 1 = wide (args .d) (args .v) (args .n) (args .r) (d-count .result) (pre .1 .3) (d-count .ensures) (pre .1 .1) (if1 .left) in record { fits = first-fits (args .n) (pre .1 .3) w (pre .1 .2) ((locate .ensures) .below) (c .before .before .build2 .ensures) (pre .1 .0 .small) }
 
 ending-sub-build-2 : (t : ℕ) → ending-lts.Need-sub-build-2 (
   d-count-reads.Asked,
@@ -466,7 +461,7 @@ ending-sub-build-2 t c =
     let if1 = c .before .before .before .before .before .before .before .before .before .if1 in
     let locate = c .before .before .before .before .before .before .before .locate in
     let build2 = c .before .before .build2 in
-    let w : (args .v) ≤ (args .n) - 1 = wide (args .d) (args .v) (args .n) (args .r) (d-count .result) (omega arith) (d-count .ensures) (pre .1 .1) (if1 .left) in omega (arith, first-room (args .n) (omega arith) w (pre .1 .2) ((locate .ensures) .below) (build2 .ensures), first-length (args .n) (omega arith) w (pre .1 .2) ((locate .ensures) .below) (build2 .ensures))
+    let w : (args .v) ≤ (args .n) - 1 = wide (args .d) (args .v) (args .n) (args .r) (d-count .result) (pre .1 .3) (d-count .ensures) (pre .1 .1) (if1 .left) in first-to (args .n) (pre .1 .3) w (pre .1 .2) ((locate .ensures) .below) (build2 .ensures)
 
 ending-part-build-start : (t : ℕ) → ending-lts.Need-part-build-start (
   d-count-reads.Asked,
@@ -487,7 +482,7 @@ ending-part-build-start t c =
     let if1 = c .before .before .before .before .before .before .before .before .before .if1 in
     let locate = c .before .before .before .before .before .before .before .locate in
     let build2 = c .before .before .build2 in
-    let w : (args .v) ≤ (args .n) - 1 = wide (args .d) (args .v) (args .n) (args .r) (d-count .result) (omega arith) (d-count .ensures) (pre .1 .1) (if1 .left) in omega (arith, first-room (args .n) (omega arith) w (pre .1 .2) ((locate .ensures) .below) (build2 .ensures), first-length (args .n) (omega arith) w (pre .1 .2) ((locate .ensures) .below) (build2 .ensures))
+    let w : (args .v) ≤ (args .n) - 1 = wide (args .d) (args .v) (args .n) (args .r) (d-count .result) (pre .1 .3) (d-count .ensures) (pre .1 .1) (if1 .left) in first-to (args .n) (pre .1 .3) w (pre .1 .2) ((locate .ensures) .below) (build2 .ensures)
 
 ending-part-build-end : (t : ℕ) → ending-lts.Need-part-build-end (
   d-count-reads.Asked,
@@ -502,13 +497,7 @@ ending-part-build-end : (t : ℕ) → ending-lts.Need-part-build-end (
   times-reads.Learnt,
 ) (ending-at t) ending.Post
 ending-part-build-end t c =
-    let args = c .before .before .before .before .before .before .before .before .before .before .before .before .before .args in
-    let pre = c .before .before .before .before .before .before .before .before .before .before .before .before .before .pre in
-    let d-count = c .before .before .before .before .before .before .before .before .before .before .d-count in
-    let if1 = c .before .before .before .before .before .before .before .before .before .if1 in
-    let locate = c .before .before .before .before .before .before .before .locate in
-    let build2 = c .before .before .build2 in
-    let w : (args .v) ≤ (args .n) - 1 = wide (args .d) (args .v) (args .n) (args .r) (d-count .result) (omega arith) (d-count .ensures) (pre .1 .1) (if1 .left) in omega (arith, first-room (args .n) (omega arith) w (pre .1 .2) ((locate .ensures) .below) (build2 .ensures), first-length (args .n) (omega arith) w (pre .1 .2) ((locate .ensures) .below) (build2 .ensures))
+    le-refl _
 
 ending-sub-build-3 : (t : ℕ) → ending-lts.Need-sub-build-3 (
   d-count-reads.Asked,
@@ -523,11 +512,7 @@ ending-sub-build-3 : (t : ℕ) → ending-lts.Need-sub-build-3 (
   times-reads.Learnt,
 ) (ending-at t) ending.Post
 ending-sub-build-3 t c =
-    let args = c .before .before .before .before .before .before .before .before .before .before .before .before .before .before .args in
-    let pre = c .before .before .before .before .before .before .before .before .before .before .before .before .before .before .pre in
-    let d-count = c .before .before .before .before .before .before .before .before .before .before .before .d-count in
-    let if1 = c .before .before .before .before .before .before .before .before .before .before .if1 in
-    let w : (args .v) ≤ (args .n) - 1 = wide (args .d) (args .v) (args .n) (args .r) (d-count .result) (omega arith) (d-count .ensures) (pre .1 .1) (if1 .left) in omega arith
+    c .before .before .before .before .before .before .before .before .locate .ensures .below
 
 ending-build-requires-3 : (t : ℕ) → ending-lts.Need-build-requires-3 (
   d-count-reads.Asked,
@@ -549,7 +534,7 @@ ending-build-requires-3 t c κs =
     let locate = c .before .before .before .before .before .before .before .before .locate in
     let times = c .before .before .before .before .before .times in
     let build2 = c .before .before .before .build2 in
-    let w : (args .v) ≤ (args .n) - 1 = wide (args .d) (args .v) (args .n) (args .r) (d-count .result) (omega arith) (d-count .ensures) (pre .1 .1) (if1 .left) in (omega arith, (table-less (args .d) (args .v) (args .n) (((args .n) - 1 - (args .v)) - (locate .result .at)) (args .table .now) (omega arith) (pre .1 .0), rw (times .ensures) (spot-quot (locate .ensures) (pre .1 .0 .full (locate .result .at) (omega arith))), part-room (args .n) (omega arith) w (pre .1 .2) ((locate .ensures) .below) (build2 .ensures)))
+    let w : (args .v) ≤ (args .n) - 1 = wide (args .d) (args .v) (args .n) (args .r) (d-count .result) (pre .1 .3) (d-count .ensures) (pre .1 .1) (if1 .left) in (falls-less _ _ _ (pre .0) (second-less _ _ _ (pre .1 .3)), (table-less (args .d) (args .v) (args .n) (((args .n) - 1 - (args .v)) - (locate .result .at)) (args .table .now) (second-le _ _ _) (pre .1 .0), rw (times .ensures) (spot-quot (locate .ensures) (pre .1 .0 .full (locate .result .at) (first-le _ _ _ (locate .ensures .below)))), part-room (args .n) (pre .1 .3) w (pre .1 .2) ((locate .ensures) .below) (build2 .ensures)))
 
 ending-add-to : (t : ℕ) → ending-lts.Need-add-to (
   d-count-reads.Asked,
@@ -570,7 +555,7 @@ ending-add-to t c =
     let if1 = c .before .before .before .before .before .before .before .before .before .before .before .before .before .if1 in
     let locate = c .before .before .before .before .before .before .before .before .before .before .before .locate in
     let build2 = c .before .before .before .before .before .before .build2 in
-    let w : (args .v) ≤ (args .n) - 1 = wide (args .d) (args .v) (args .n) (args .r) (d-count .result) (omega arith) (d-count .ensures) (pre .1 .1) (if1 .left) in omega (arith, (rooms (args .n) (omega arith) w (pre .1 .2) ((locate .ensures) .below) (build2 .ensures) (c .before .before .build3 .ensures)) .short, pre .1 .0 .small)
+    let w : (args .v) ≤ (args .n) - 1 = wide (args .d) (args .v) (args .n) (args .r) (d-count .result) (pre .1 .3) (d-count .ensures) (pre .1 .1) (if1 .left) in record { fits = second-fits (args .n) (pre .1 .3) w (pre .1 .2) ((locate .ensures) .below) (build2 .ensures) (c .before .before .build3 .ensures) (pre .1 .0 .small) .0 }
 
 ending-slice-write-out-3 : (t : ℕ) → ending-lts.Need-slice-write-out-3 (
   d-count-reads.Asked,
@@ -591,7 +576,7 @@ ending-slice-write-out-3 t c =
     let if1 = c .before .before .before .before .before .before .before .before .before .before .before .before .before .if1 in
     let locate = c .before .before .before .before .before .before .before .before .before .before .before .locate in
     let build2 = c .before .before .before .before .before .before .build2 in
-    let w : (args .v) ≤ (args .n) - 1 = wide (args .d) (args .v) (args .n) (args .r) (d-count .result) (omega arith) (d-count .ensures) (pre .1 .1) (if1 .left) in (rooms (args .n) (omega arith) w (pre .1 .2) ((locate .ensures) .below) (build2 .ensures) (c .before .before .build3 .ensures)) .inside
+    let w : (args .v) ≤ (args .n) - 1 = wide (args .d) (args .v) (args .n) (args .r) (d-count .result) (pre .1 .3) (d-count .ensures) (pre .1 .1) (if1 .left) in (rooms (args .n) (pre .1 .3) w (pre .1 .2) ((locate .ensures) .below) (build2 .ensures) (c .before .before .build3 .ensures)) .inside
 
 ending-add-result-2 : (t : ℕ) → ending-lts.Need-add-result-2 (
   d-count-reads.Asked,
@@ -612,7 +597,7 @@ ending-add-result-2 t c =
     let if1 = c .before .before .before .before .before .before .before .before .before .before .before .before .before .if1 in
     let locate = c .before .before .before .before .before .before .before .before .before .before .before .locate in
     let build2 = c .before .before .before .before .before .before .build2 in
-    let w : (args .v) ≤ (args .n) - 1 = wide (args .d) (args .v) (args .n) (args .r) (d-count .result) (omega arith) (d-count .ensures) (pre .1 .1) (if1 .left) in omega (arith, (rooms (args .n) (omega arith) w (pre .1 .2) ((locate .ensures) .below) (build2 .ensures) (c .before .before .build3 .ensures)) .short, pre .1 .0 .small)
+    let w : (args .v) ≤ (args .n) - 1 = wide (args .d) (args .v) (args .n) (args .r) (d-count .result) (pre .1 .3) (d-count .ensures) (pre .1 .1) (if1 .left) in record { fits = second-fits (args .n) (pre .1 .3) w (pre .1 .2) ((locate .ensures) .below) (build2 .ensures) (c .before .before .build3 .ensures) (pre .1 .0 .small) .1 }
 
 ending-same-length-2 : (t : ℕ) → ending-lts.Need-same-length-2 (
   d-count-reads.Asked,
@@ -633,7 +618,7 @@ ending-same-length-2 t c =
     let if1 = c .before .before .before .before .before .before .before .before .before .before .before .before .before .if1 in
     let locate = c .before .before .before .before .before .before .before .before .before .before .before .locate in
     let build2 = c .before .before .before .before .before .before .build2 in
-    let w : (args .v) ≤ (args .n) - 1 = wide (args .d) (args .v) (args .n) (args .r) (d-count .result) (omega arith) (d-count .ensures) (pre .1 .1) (if1 .left) in (rooms (args .n) (omega arith) w (pre .1 .2) ((locate .ensures) .below) (build2 .ensures) (c .before .before .build3 .ensures)) .kept
+    let w : (args .v) ≤ (args .n) - 1 = wide (args .d) (args .v) (args .n) (args .r) (d-count .result) (pre .1 .3) (d-count .ensures) (pre .1 .1) (if1 .left) in (rooms (args .n) (pre .1 .3) w (pre .1 .2) ((locate .ensures) .below) (build2 .ensures) (c .before .before .build3 .ensures)) .kept
 
 ending-returns-2 : (t : ℕ) → ending-lts.Need-returns-2 (
   d-count-reads.Asked,
@@ -657,7 +642,7 @@ ending-returns-2 t c =
     let times = c .before .before .before .before .before .before .before .before .times in
     let build2 = c .before .before .before .before .before .before .build2 in
     let build3 = c .before .before .build3 in
-    let w : (args .v) ≤ (args .n) - 1 = wide (args .d) (args .v) (args .n) (args .r) (d-count .result) (omega arith) (d-count .ensures) (pre .1 .1) (if1 .left) in let z : (build2 .result) + 1 + (build3 .result) + 1 ≤ (args .n) + (args .n) = (rooms (args .n) (omega arith) w (pre .1 .2) ((locate .ensures) .below) (build2 .ensures) (build3 .ensures)) .short in written-arch (args .d) (args .v) (args .n) (args .r) (d-count .result) (locate .result .at) (locate .result .rest) (getD (args .table .now) (locate .result .at) 0) (left-over .result) (times .result) (args .out .now) (build2 .last .0) (build3 .last .0) (build2 .result) (build3 .result) (left-over .ensures) (times .ensures) (omega arith) (pre .1 .1) (d-count .ensures) (if1 .left) w (locate .ensures) (pre .1 .0 .full (locate .result .at) (omega arith)) (build2 .ensures) (omega arith) (build3 .ensures) (omega arith)
+    let w : (args .v) ≤ (args .n) - 1 = wide (args .d) (args .v) (args .n) (args .r) (d-count .result) (pre .1 .3) (d-count .ensures) (pre .1 .1) (if1 .left) in written-arch (args .d) (args .v) (args .n) (args .r) (d-count .result) (locate .result .at) (locate .result .rest) (getD (args .table .now) (locate .result .at) 0) (left-over .result) (times .result) (args .out .now) (build2 .last .0) (build3 .last .0) (build2 .result) (build3 .result) (left-over .ensures) (times .ensures) (pre .1 .3) (pre .1 .1) (d-count .ensures) (if1 .left) w (locate .ensures) (pre .1 .0 .full (locate .result .at) (first-le _ _ _ (locate .ensures .below))) (build2 .ensures) (first-before (args .n) (pre .1 .3) w (pre .1 .2) ((locate .ensures) .below) (build2 .ensures)) (build3 .ensures) (second-before (args .n) (pre .1 .3) w (pre .1 .2) ((locate .ensures) .below) (build2 .ensures) (build3 .ensures))
 
 pub +build+ending-spec : {M : Type 1} → statement M
 +build+ending-spec =

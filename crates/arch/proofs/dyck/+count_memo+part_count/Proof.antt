@@ -1,8 +1,10 @@
 -- The loop holds the products from i up to the middle; what the memo has is right before and after each call, and stays. The n of
 -- each part is smaller, and a part that is not known is worked out at its own n.
 use mathlib.Core.Path.{_≡_, refl}
+use native.Mathlib.Nat.{le-of-lt, le-trans}
 use native.Mathlib.Omega.{arith}
 use Rattle.arch.specs.Memo.{Good, Kept}
+use Rattle.arch.proofs.Sizes.{not-none, none-left, one-le, falls-less, sum-parts, half-le, half-less, half-back, back-on, rest-less, rest-le}
 use Rattle.arch.proofs.Memos.{part, fits, zero-is, part-next, part-fits, all-in, twice-fits, even-is, odd-is}
 use Rattle.arch.proofs.Memos.{good-set, kept-same, kept-on, kept-set}
 use Prim.Native.Nat.{ℕ, _+_, _-_, _*_, _/_, _≤_, _<_}
@@ -83,7 +85,10 @@ count-memo-part-count-requires : (t : ℕ) → count-memo-lts.Need-part-count-re
   part-count-below t,
   part-count.Post,
 ) (count-memo-at t) count-memo.Post count-memo-Inv-loop count-memo-μ-loop
-count-memo-part-count-requires t c κs = (omega arith, (omega arith, c .before .before .loop .inv .1))
+count-memo-part-count-requires t c κs =
+    let pre = c .before .before .before .before .pre in
+    let pos = not-none _ (c .before .before .before .if1 .left) in
+    (falls-less _ _ _ (pre .0) (half-back _ _ pos (c .before .before .loop .inv .0)), (le-trans (le-of-lt (half-back _ _ pos (c .before .before .loop .inv .0))) (pre .1 .0), c .before .before .loop .inv .1))
 
 count-memo-sub-part-count : (t : ℕ) → count-memo-lts.Need-sub-part-count (
   part-count-below t,
@@ -101,7 +106,10 @@ count-memo-part-count-requires-2 : (t : ℕ) → count-memo-lts.Need-part-count-
   part-count-below t,
   part-count.Post,
 ) (count-memo-at t) count-memo.Post count-memo-Inv-loop count-memo-μ-loop
-count-memo-part-count-requires-2 t c κs = (omega arith, (omega arith, c .before .part-count .ensures .1))
+count-memo-part-count-requires-2 t c κs =
+    let pre = c .before .before .before .before .before .before .pre in
+    let pos = not-none _ (c .before .before .before .before .before .if1 .left) in
+    (falls-less _ _ _ (pre .0) (rest-less _ _ pos), (rest-le _ _ _ (pre .1 .0), c .before .part-count .ensures .1))
 
 count-memo-mul-sum :
     (t : ℕ) →
@@ -113,10 +121,12 @@ count-memo-mul-sum :
     count-memo-μ-loop
 count-memo-mul-sum t c =
     let args = c .before .before .before .before .before .before .before .args in
+    let pre = c .before .before .before .before .before .before .before .pre in
+    let pos = not-none _ (c .before .before .before .before .before .before .if1 .left) in
     let loop = c .before .before .before .before .before .loop in
     let first = c .before .before .part-count in
-    let e : loop .i - 1 + 1 ≡ loop .i = omega arith in
-    omega (arith, part-fits (args .n) (loop .i - 1) (args .n / 2) (first .result) (c .part-count2 .result) (loop .sum) (omega arith) (first .ensures .0) (c .part-count2 .ensures .0) (rw e (loop .inv .3)) (omega arith) (omega arith))
+    let e : loop .i - 1 + 1 ≡ loop .i = back-on _ (c .before .before .before .before .loop-test .taken) in
+    record { fits = sum-parts _ _ _ refl (part-fits (args .n) (loop .i - 1) (args .n / 2) (first .result) (c .part-count2 .result) (loop .sum) pos (first .ensures .0) (c .part-count2 .ensures .0) (rw e (loop .inv .3)) (pre .1 .0) (half-le _)) .0 }
 
 count-memo-add-sum :
     (t : ℕ) →
@@ -128,10 +138,12 @@ count-memo-add-sum :
     count-memo-μ-loop
 count-memo-add-sum t c =
     let args = c .before .before .before .before .before .before .before .args in
+    let pre = c .before .before .before .before .before .before .before .pre in
+    let pos = not-none _ (c .before .before .before .before .before .before .if1 .left) in
     let loop = c .before .before .before .before .before .loop in
     let first = c .before .before .part-count in
-    let e : loop .i - 1 + 1 ≡ loop .i = omega arith in
-    omega (arith, part-fits (args .n) (loop .i - 1) (args .n / 2) (first .result) (c .part-count2 .result) (loop .sum) (omega arith) (first .ensures .0) (c .part-count2 .ensures .0) (rw e (loop .inv .3)) (omega arith) (omega arith))
+    let e : loop .i - 1 + 1 ≡ loop .i = back-on _ (c .before .before .before .before .loop-test .taken) in
+    record { fits = part-fits (args .n) (loop .i - 1) (args .n / 2) (first .result) (c .part-count2 .result) (loop .sum) pos (first .ensures .0) (c .part-count2 .ensures .0) (rw e (loop .inv .3)) (pre .1 .0) (half-le _) }
 
 count-memo-loop-less : (t : ℕ) → count-memo-lts.Need-loop-less (
   part-count-below t,
@@ -145,10 +157,11 @@ count-memo-loop-again : (t : ℕ) → count-memo-lts.Need-loop-again (
 ) (count-memo-at t) count-memo.Post count-memo-Inv-loop count-memo-μ-loop
 count-memo-loop-again t c =
     let args = c .before .before .before .before .before .before .before .args in
+    let pos = not-none _ (c .before .before .before .before .before .before .if1 .left) in
     let loop = c .before .before .before .before .before .loop in
     let first = c .before .before .part-count in
-    let e : loop .i - 1 + 1 ≡ loop .i = omega arith in
-    (omega arith, c .part-count2 .ensures .1, kept-on (kept-on (loop .inv .2) (first .ensures .2)) (c .part-count2 .ensures .2), part-next (args .n) (loop .i - 1) (args .n / 2) (first .result) (c .part-count2 .result) (loop .sum) (omega arith) (first .ensures .0) (c .part-count2 .ensures .0) (rw e (loop .inv .3)))
+    let e : loop .i - 1 + 1 ≡ loop .i = back-on _ (c .before .before .before .before .loop-test .taken) in
+    (le-trans (one-le _) (loop .inv .0), c .part-count2 .ensures .1, kept-on (kept-on (loop .inv .2) (first .ensures .2)) (c .part-count2 .ensures .2), part-next (args .n) (loop .i - 1) (args .n / 2) (first .result) (c .part-count2 .result) (loop .sum) pos (first .ensures .0) (c .part-count2 .ensures .0) (rw e (loop .inv .3)))
 
 count-memo-add-twice : (t : ℕ) → count-memo-lts.Need-add-twice (
   part-count-below t,
@@ -156,9 +169,11 @@ count-memo-add-twice : (t : ℕ) → count-memo-lts.Need-add-twice (
 ) (count-memo-at t) count-memo.Post count-memo-Inv-loop count-memo-μ-loop
 count-memo-add-twice t c =
     let args = c .before .before .before .args in
+    let pre = c .before .before .before .pre in
+    let pos = not-none _ (c .before .before .if1 .left) in
     let loop = c .before .loop in
-    let whole = all-in (args .n) (loop .i) (args .n / 2) (loop .sum) (omega arith) (loop .inv .3) in
-    omega (arith, twice-fits (args .n) (args .n / 2) (loop .sum) (omega arith) refl whole (omega arith))
+    let whole = all-in (args .n) (loop .i) (args .n / 2) (loop .sum) (none-left _ (c .loop-test .left)) (loop .inv .3) in
+    record { fits = twice-fits (args .n) (args .n / 2) (loop .sum) pos refl whole (pre .1 .0) }
 
 count-memo-mul-memo :
     (t : ℕ) →
@@ -182,16 +197,20 @@ count-memo-returns-2 : (t : ℕ) → count-memo-lts.Need-returns-2 (
 ) (count-memo-at t) count-memo.Post count-memo-Inv-loop count-memo-μ-loop
 count-memo-returns-2 t c =
     let args = c .before .before .before .before .args in
+    let pos = not-none _ (c .before .before .before .if1 .left) in
     let loop = c .before .before .loop in
-    let whole = all-in (args .n) (loop .i) (args .n / 2) (loop .sum) (omega arith) (loop .inv .3) in
-    let e = even-is (args .n) (args .n / 2) (loop .sum) (omega arith) refl whole (c .if2 .taken) in
+    let whole = all-in (args .n) (loop .i) (args .n / 2) (loop .sum) (none-left _ (c .before .loop-test .left)) (loop .inv .3) in
+    let e = even-is (args .n) (args .n / 2) (loop .sum) pos refl whole (c .if2 .taken) in
     (e, good-set _ (args .n) _ (loop .inv .1) e, kept-on (loop .inv .2) (kept-set _ (args .n) _ (loop .inv .1) e))
 
 count-memo-part-count-requires-3 : (t : ℕ) → count-memo-lts.Need-part-count-requires-3 (
   part-count-below t,
   part-count.Post,
 ) (count-memo-at t) count-memo.Post count-memo-Inv-loop count-memo-μ-loop
-count-memo-part-count-requires-3 t c κs = (omega arith, (omega arith, c .before .before .before .loop .inv .1))
+count-memo-part-count-requires-3 t c κs =
+    let pre = c .before .before .before .before .before .pre in
+    let pos = not-none _ (c .before .before .before .before .if1 .left) in
+    (falls-less _ _ _ (pre .0) (half-less _ pos), (le-trans (half-le _) (pre .1 .0), c .before .before .before .loop .inv .1))
 
 count-memo-mul-c :
     (t : ℕ) →
@@ -203,10 +222,12 @@ count-memo-mul-c :
     count-memo-μ-loop
 count-memo-mul-c t c =
     let args = c .before .before .before .before .before .before .args in
+    let pre = c .before .before .before .before .before .before .pre in
+    let pos = not-none _ (c .before .before .before .before .before .if1 .left) in
     let loop = c .before .before .before .before .loop in
-    let whole = all-in (args .n) (loop .i) (args .n / 2) (loop .sum) (omega arith) (loop .inv .3) in
-    let e = odd-is (args .n) (args .n / 2) (loop .sum) (omega arith) refl whole (c .part-count3 .result) (c .before .before .if2 .left) (c .part-count3 .ensures .0) in
-    omega (arith, fits (args .n) (omega arith))
+    let whole = all-in (args .n) (loop .i) (args .n / 2) (loop .sum) (none-left _ (c .before .before .before .loop-test .left)) (loop .inv .3) in
+    let e = odd-is (args .n) (args .n / 2) (loop .sum) pos refl whole (c .part-count3 .result) (c .before .before .if2 .left) (c .part-count3 .ensures .0) in
+    record { fits = sum-parts _ _ _ e (fits (args .n) (pre .1 .0)) .0 }
 
 count-memo-add-c :
     (t : ℕ) →
@@ -218,10 +239,12 @@ count-memo-add-c :
     count-memo-μ-loop
 count-memo-add-c t c =
     let args = c .before .before .before .before .before .before .args in
+    let pre = c .before .before .before .before .before .before .pre in
+    let pos = not-none _ (c .before .before .before .before .before .if1 .left) in
     let loop = c .before .before .before .before .loop in
-    let whole = all-in (args .n) (loop .i) (args .n / 2) (loop .sum) (omega arith) (loop .inv .3) in
-    let e = odd-is (args .n) (args .n / 2) (loop .sum) (omega arith) refl whole (c .part-count3 .result) (c .before .before .if2 .left) (c .part-count3 .ensures .0) in
-    omega (arith, fits (args .n) (omega arith))
+    let whole = all-in (args .n) (loop .i) (args .n / 2) (loop .sum) (none-left _ (c .before .before .before .loop-test .left)) (loop .inv .3) in
+    let e = odd-is (args .n) (args .n / 2) (loop .sum) pos refl whole (c .part-count3 .result) (c .before .before .if2 .left) (c .part-count3 .ensures .0) in
+    record { fits = sum-parts _ _ _ e (fits (args .n) (pre .1 .0)) .1 }
 
 count-memo-mul-memo-2 : (t : ℕ) → count-memo-lts.Need-mul-memo-2 (
   part-count-below t,
@@ -241,9 +264,10 @@ count-memo-returns-3 : (t : ℕ) → count-memo-lts.Need-returns-3 (
 ) (count-memo-at t) count-memo.Post count-memo-Inv-loop count-memo-μ-loop
 count-memo-returns-3 t c =
     let args = c .before .before .before .before .before .before .args in
+    let pos = not-none _ (c .before .before .before .before .before .if1 .left) in
     let loop = c .before .before .before .before .loop in
-    let whole = all-in (args .n) (loop .i) (args .n / 2) (loop .sum) (omega arith) (loop .inv .3) in
-    let e = odd-is (args .n) (args .n / 2) (loop .sum) (omega arith) refl whole (c .part-count3 .result) (c .before .before .if2 .left) (c .part-count3 .ensures .0) in
+    let whole = all-in (args .n) (loop .i) (args .n / 2) (loop .sum) (none-left _ (c .before .before .before .loop-test .left)) (loop .inv .3) in
+    let e = odd-is (args .n) (args .n / 2) (loop .sum) pos refl whole (c .part-count3 .result) (c .before .before .if2 .left) (c .part-count3 .ensures .0) in
     let middle = c .part-count3 .ensures in
     (e, good-set _ (args .n) _ (middle .1) e, kept-on (kept-on (loop .inv .2) (middle .2)) (kept-set _ (args .n) _ (middle .1) e))
 

@@ -1,9 +1,10 @@
 -- The loop of the path reader knows the tree that is read so far. The bytes that are left fall.
 use mathlib.Core.Path.{_∙_}
-use native.Mathlib.Omega.{arith}
+use native.Mathlib.Nat.{le-refl, le-of-lt, lt-of-le-of-lt}
 use lib.ListN.{length, getD, take, drop}
+use Rattle.arch.proofs.Sizes.{byte-fits, left-less, left-one, next-fits, sum-fits, east-fits, wide-fits, parts-fit, part-le, wide-less, le-more}
 use Rattle.arch.proofs.Tables.{family-small}
-use Rattle.arch.proofs.Reading.{tail-length, part-byte, path-good, path-bad, arch-good, arch-bad, Sofar, sofar-start, no-diagonal, no-room, with-dee, no-arch, moves, wide, with-arch, arch-fits, ends-over, ends-here}
+use Rattle.arch.proofs.Reading.{tail-some, tail-falls, inside-falls, part-byte, path-good, path-bad, arch-good, arch-bad, Sofar, sofar-start, no-diagonal, no-room, with-dee, no-arch, moves, wide, with-arch, arch-fits, ends-over, ends-here}
 use Rattle.arch.proofs.Reading.{no-east, no-inside, inside-short, no-end, no-north, arch-ok}
 use Prim.Native.Nat.{ℕ, _+_, _-_, _*_, _<_}
 use borrow.Fn.Kinds.{In}
@@ -42,9 +43,9 @@ read-arch-add-if1 :
     (t : ℕ) →
     read-arch-lts.Need-add-if1 (read-path-below t, read-path.Post) (read-arch-at t) read-arch.Post
 read-arch-add-if1 t c =
-    let pre = c .before .before .pre in
     let args = c .before .before .args in
-    omega (arith, pre .1 .0 .small, family-small (args .d) (args .v) (pre .1 .0 .family))
+    let pre = c .before .before .pre in
+    record { fits = east-fits _ _ _ (pre .1 .1) (pre .1 .0 .small) (family-small (args .d) (args .v) (pre .1 .0 .family)) .0 }
 
 read-arch-add-if1-2 :
     (t : ℕ) →
@@ -53,9 +54,9 @@ read-arch-add-if1-2 :
     (read-arch-at t)
     read-arch.Post
 read-arch-add-if1-2 t c =
-    let pre = c .before .before .pre in
     let args = c .before .before .args in
-    omega (arith, pre .1 .0 .small, family-small (args .d) (args .v) (pre .1 .0 .family))
+    let pre = c .before .before .pre in
+    record { fits = east-fits _ _ _ (pre .1 .1) (pre .1 .0 .small) (family-small (args .d) (args .v) (pre .1 .0 .family)) .1 }
 
 read-arch-returns :
     (t : ℕ) →
@@ -70,37 +71,39 @@ read-arch-sub-read-path : (t : ℕ) → read-arch-lts.Need-sub-read-path (
   read-path.Post,
 ) (read-arch-at t) read-arch.Post
 read-arch-sub-read-path t c =
-    omega arith
+    c .before .before .before .pre .1 .2
 
 read-arch-part-read-path-start : (t : ℕ) → read-arch-lts.Need-part-read-path-start (
   read-path-below t,
   read-path.Post,
 ) (read-arch-at t) read-arch.Post
 read-arch-part-read-path-start t c =
-    omega arith
+    c .before .before .before .pre .1 .2
 
 read-arch-part-read-path-end : (t : ℕ) → read-arch-lts.Need-part-read-path-end (
   read-path-below t,
   read-path.Post,
 ) (read-arch-at t) read-arch.Post
 read-arch-part-read-path-end t c =
-    omega arith
+    le-refl _
 
 read-arch-add-read-path : (t : ℕ) → read-arch-lts.Need-add-read-path (
   read-path-below t,
   read-path.Post,
 ) (read-arch-at t) read-arch.Post
 read-arch-add-read-path t c =
+    let args = c .before .before .before .before .args in
     let pre = c .before .before .before .before .pre in
-    omega (arith, pre .1 .0 .small)
+    record { fits = east-fits _ _ _ (pre .1 .1) (pre .1 .0 .small) (family-small (args .d) (args .v) (pre .1 .0 .family)) .0 }
 
 read-arch-add-read-path-2 : (t : ℕ) → read-arch-lts.Need-add-read-path-2 (
   read-path-below t,
   read-path.Post,
 ) (read-arch-at t) read-arch.Post
 read-arch-add-read-path-2 t c =
+    let args = c .before .before .before .before .args in
     let pre = c .before .before .before .before .pre in
-    omega (arith, pre .1 .0 .small)
+    record { fits = east-fits _ _ _ (pre .1 .1) (pre .1 .0 .small) (family-small (args .d) (args .v) (pre .1 .0 .family)) .1 }
 
 read-arch-read-path-requires : (t : ℕ) → read-arch-lts.Need-read-path-requires (
   read-path-below t,
@@ -109,7 +112,7 @@ read-arch-read-path-requires : (t : ℕ) → read-arch-lts.Need-read-path-requir
 read-arch-read-path-requires t c κs =
     let args = c .before .before .before .before .args in
     let pre = c .before .before .before .before .pre in
-    (omega (arith, tail-length 1 (args .s .now)), (pre .1 .0, omega arith))
+    (inside-falls (args .s .now) _ (pre .0) (pre .1 .2), (pre .1 .0, c .before .if1 .left))
 
 read-arch-returns-2 :
     (t : ℕ) →
@@ -131,7 +134,7 @@ read-arch-add-e t c =
     let pre = c .before .before .before .before .before .before .before .before .pre in
     let read-path = c .before .before .before .read-path in
     let inside = path-good (args .d) (args .v) (args .n) (args .x + args .v + 1) (take (length (args .s .now) - 1) (drop 1 (args .s .now))) (read-path .result .good) (read-path .result .next) (read-path .result .size) (read-path .result .number) (c .before .if2 .left) (read-path .ensures) in
-    omega (arith, inside-short (args .d) (args .v) (args .n) (args .x) (args .s .now) (pre .1 .2) (pre .1 .3) inside)
+    record { fits = lt-of-le-of-lt (inside-short (args .d) (args .v) (args .n) (args .x) (args .s .now) (pre .1 .2) (pre .1 .3) inside) (c .before .before .before .before .before .before .before .before .good .0 .0) }
 
 read-arch-returns-3 :
     (t : ℕ) →
@@ -151,7 +154,7 @@ read-arch-shared-slice-read-if4 : (t : ℕ) → read-arch-lts.Need-shared-slice-
   read-path.Post,
 ) (read-arch-at t) read-arch.Post
 read-arch-shared-slice-read-if4 t c =
-    omega arith
+    c .before .if3 .left
 
 read-arch-returns-4 :
     (t : ℕ) →
@@ -171,7 +174,7 @@ read-arch-add-t10 :
     (t : ℕ) →
     read-arch-lts.Need-add-t10 (read-path-below t, read-path.Post) (read-arch-at t) read-arch.Post
 read-arch-add-t10 t c =
-    omega arith
+    record { fits = next-fits _ _ (c .before .before .if3 .left) (c .before .before .before .before .before .before .before .before .before .before .before .good .0 .0) }
 
 read-arch-returns-5 :
     (t : ℕ) →
@@ -185,7 +188,7 @@ read-arch-returns-5 t c =
     let read-path = c .before .before .before .before .before .before .read-path in
     let if1 = c .before .before .before .before .if2 in
     let inside = path-good (args .d) (args .v) (args .n) (args .x + args .v + 1) (take (length (args .s .now) - 1) (drop 1 (args .s .now))) (read-path .result .good) (read-path .result .next) (read-path .result .size) (read-path .result .number) (if1 .left) (read-path .ensures) in
-    arch-ok (args .d) (args .v) (args .n) (args .x) (args .s .now) (pre .1 .2) (pre .1 .3) inside (omega arith) (c .if4 .left)
+    arch-ok (args .d) (args .v) (args .n) (args .x) (args .s .now) (pre .1 .2) (pre .1 .3) inside (c .before .before .if3 .left) (c .if4 .left)
 
 abbrev read-path-Inv-loop : read-path-lts.InvT-loop
 read-path-Inv-loop s table d v n x next₀ size₀ number₀ next size number = Sofar d v n x s next size number
@@ -210,7 +213,7 @@ read-path-shared-slice-read-b : (t : ℕ) → read-path-lts.Need-shared-slice-re
   lower-reads.Learnt,
 ) (read-path-at t) read-path.Post read-path-Inv-loop read-path-μ-loop
 read-path-shared-slice-read-b t c =
-    omega arith
+    c .before .loop-test .taken
 
 read-path-sub-read-arch : (t : ℕ) → read-path-lts.Need-sub-read-arch (
   read-arch-below t,
@@ -219,7 +222,7 @@ read-path-sub-read-arch : (t : ℕ) → read-path-lts.Need-sub-read-arch (
   lower-reads.Learnt,
 ) (read-path-at t) read-path.Post read-path-Inv-loop read-path-μ-loop
 read-path-sub-read-arch t c =
-    omega arith
+    le-of-lt (c .before .before .loop-test .taken)
 
 read-path-part-read-arch-start : (t : ℕ) → read-path-lts.Need-part-read-arch-start (
   read-arch-below t,
@@ -228,7 +231,7 @@ read-path-part-read-arch-start : (t : ℕ) → read-path-lts.Need-part-read-arch
   lower-reads.Learnt,
 ) (read-path-at t) read-path.Post read-path-Inv-loop read-path-μ-loop
 read-path-part-read-arch-start t c =
-    omega arith
+    le-of-lt (c .before .before .loop-test .taken)
 
 read-path-part-read-arch-end : (t : ℕ) → read-path-lts.Need-part-read-arch-end (
   read-arch-below t,
@@ -237,7 +240,7 @@ read-path-part-read-arch-end : (t : ℕ) → read-path-lts.Need-part-read-arch-e
   lower-reads.Learnt,
 ) (read-path-at t) read-path.Post read-path-Inv-loop read-path-μ-loop
 read-path-part-read-arch-end t c =
-    omega arith
+    le-refl _
 
 read-path-add-read-arch : (t : ℕ) → read-path-lts.Need-add-read-arch (
   read-arch-below t,
@@ -247,9 +250,8 @@ read-path-add-read-arch : (t : ℕ) → read-path-lts.Need-add-read-arch (
 ) (read-path-at t) read-path.Post read-path-Inv-loop read-path-μ-loop
 read-path-add-read-arch t c =
     let pre = c .before .before .before .before .before .before .before .pre in
-    let args = c .before .before .before .before .before .before .before .args in
     let loop = c .before .before .before .before .loop in
-    omega (arith, loop .inv .room, pre .1 .0 .small, family-small (args .d) (args .v) (pre .1 .0 .family))
+    record { fits = sum-fits _ _ (loop .inv .room) (pre .1 .0 .small) .0 }
 
 read-path-read-arch-requires : (t : ℕ) → read-path-lts.Need-read-arch-requires (
   read-arch-below t,
@@ -261,7 +263,7 @@ read-path-read-arch-requires t c κs =
     let args = c .before .before .before .before .before .before .before .args in
     let pre = c .before .before .before .before .before .before .before .pre in
     let loop = c .before .before .before .before .loop in
-    (omega (arith, tail-length (loop .next) (args .s .now)), (pre .1 .0, omega arith, omega (arith, tail-length (loop .next) (args .s .now)), part-byte (args .s .now) (loop .next) ∙ c .before .if1 .taken))
+    (tail-falls (loop .next) (args .s .now) _ (pre .0), (pre .1 .0, loop .inv .room, tail-some (loop .next) (args .s .now) (c .before .before .before .loop-test .taken), part-byte (args .s .now) (loop .next) ∙ c .before .if1 .taken))
 
 read-path-returns : (t : ℕ) → read-path-lts.Need-returns (
   read-arch-below t,
@@ -273,7 +275,7 @@ read-path-returns t c =
     let args = c .before .before .before .before .before .before .before .before .before .before .args in
     let loop = c .before .before .before .before .before .before .before .loop in
     let read-arch = c .before .before .read-arch in
-    no-arch (loop .inv) (omega arith) (arch-bad (args .d) (args .v) (args .n) (args .x + loop .size) (take (length (args .s .now) - loop .next) (drop (loop .next) (args .s .now))) (read-arch .result .good) (read-arch .result .next) (read-arch .result .size) (read-arch .result .number) (c .if2 .taken) (read-arch .ensures))
+    no-arch (loop .inv) (c .before .before .before .before .before .before .loop-test .taken) (arch-bad (args .d) (args .v) (args .n) (args .x + loop .size) (take (length (args .s .now) - loop .next) (drop (loop .next) (args .s .now))) (read-arch .result .good) (read-arch .result .next) (read-arch .result .size) (read-arch .result .number) (c .if2 .taken) (read-arch .ensures))
 
 read-path-add-m : (t : ℕ) → read-path-lts.Need-add-m (
   read-arch-below t,
@@ -287,7 +289,7 @@ read-path-add-m t c =
     let loop = c .before .before .before .before .before .before .before .before .loop in
     let read-arch = c .before .before .before .read-arch in
     let inside = arch-good (args .d) (args .v) (args .n) (args .x + loop .size) (take (length (args .s .now) - loop .next) (drop (loop .next) (args .s .now))) (read-arch .result .good) (read-arch .result .next) (read-arch .result .size) (read-arch .result .number) (c .before .if2 .left) (read-arch .ensures) in
-    omega (arith, wide (loop .inv) (omega arith) inside, loop .inv .room, pre .1 .0 .small, family-small (args .d) (args .v) (pre .1 .0 .family))
+    record { fits = wide-fits (args .x) _ (args .v) _ (wide (loop .inv) (c .before .before .before .before .before .before .before .loop-test .taken) inside) (pre .1 .0 .small) .0 }
 
 read-path-lower-requires : (t : ℕ) → read-path-lts.Need-lower-requires (
   read-arch-below t,
@@ -301,7 +303,7 @@ read-path-lower-requires t c κs =
     let loop = c .before .before .before .before .before .before .before .before .loop in
     let read-arch = c .before .before .before .read-arch in
     let inside = arch-good (args .d) (args .v) (args .n) (args .x + loop .size) (take (length (args .s .now) - loop .next) (drop (loop .next) (args .s .now))) (read-arch .result .good) (read-arch .result .next) (read-arch .result .size) (read-arch .result .number) (c .before .if2 .left) (read-arch .ensures) in
-    (pre .1 .0, omega (arith, wide (loop .inv) (omega arith) inside), omega arith)
+    (pre .1 .0, wide-less (args .x) _ (args .v) _ (wide (loop .inv) (c .before .before .before .before .before .before .before .loop-test .taken) inside), le-more _ _)
 
 read-path-mul-number : (t : ℕ) → read-path-lts.Need-mul-number (
   read-arch-below t,
@@ -311,9 +313,8 @@ read-path-mul-number : (t : ℕ) → read-path-lts.Need-mul-number (
 ) (read-path-at t) read-path.Post read-path-Inv-loop read-path-μ-loop
 read-path-mul-number t c =
     let pre = c .before .before .before .before .before .before .before .before .before .before .before .before .pre in
-    let args = c .before .before .before .before .before .before .before .before .before .before .before .before .args in
     let loop = c .before .before .before .before .before .before .before .before .before .loop in
-    omega (arith, loop .inv .room, pre .1 .0 .small, family-small (args .d) (args .v) (pre .1 .0 .family))
+    record { fits = byte-fits _ _ (part-le _ _ _ (loop .inv .room)) (pre .1 .0 .small) }
 
 read-path-shared-slice-read-number : (t : ℕ) → read-path-lts.Need-shared-slice-read-number (
   read-arch-below t,
@@ -324,7 +325,7 @@ read-path-shared-slice-read-number : (t : ℕ) → read-path-lts.Need-shared-sli
 read-path-shared-slice-read-number t c =
     let pre = c .before .before .before .before .before .before .before .before .before .before .before .before .before .pre in
     let loop = c .before .before .before .before .before .before .before .before .before .before .loop in
-    omega (arith, loop .inv .room, pre .1 .0 .long)
+    lt-of-le-of-lt (part-le _ _ _ (loop .inv .room)) (pre .1 .0 .long)
 
 read-path-mul-number-2 : (t : ℕ) → read-path-lts.Need-mul-number-2 (
   read-arch-below t,
@@ -339,7 +340,7 @@ read-path-mul-number-2 t c =
     let read-arch = c .before .before .before .before .before .before .read-arch in
     let lower = c .before .before .lower in
     let inside = arch-good (args .d) (args .v) (args .n) (args .x + loop .size) (take (length (args .s .now) - loop .next) (drop (loop .next) (args .s .now))) (read-arch .result .good) (read-arch .result .next) (read-arch .result .size) (read-arch .result .number) (c .before .before .before .before .if2 .left) (read-arch .ensures) in
-    omega (arith, arch-fits (loop .inv) (omega arith) inside (args .table .now) (pre .1 .0) (lower .result) (getD (args .table .now) (loop .size) 0) (lower .ensures) (pre .1 .0 .full (loop .size) (omega (arith, loop .inv .room))))
+    record { fits = parts-fit _ _ _ (arch-fits (loop .inv) (c .before .before .before .before .before .before .before .before .before .before .loop-test .taken) inside (args .table .now) (pre .1 .0) (lower .result) (getD (args .table .now) (loop .size) 0) (lower .ensures) (pre .1 .0 .full (loop .size) (part-le _ _ _ (loop .inv .room)))) .0 }
 
 read-path-add-number : (t : ℕ) → read-path-lts.Need-add-number (
   read-arch-below t,
@@ -354,7 +355,7 @@ read-path-add-number t c =
     let read-arch = c .before .before .before .before .before .before .read-arch in
     let lower = c .before .before .lower in
     let inside = arch-good (args .d) (args .v) (args .n) (args .x + loop .size) (take (length (args .s .now) - loop .next) (drop (loop .next) (args .s .now))) (read-arch .result .good) (read-arch .result .next) (read-arch .result .size) (read-arch .result .number) (c .before .before .before .before .if2 .left) (read-arch .ensures) in
-    omega (arith, arch-fits (loop .inv) (omega arith) inside (args .table .now) (pre .1 .0) (lower .result) (getD (args .table .now) (loop .size) 0) (lower .ensures) (pre .1 .0 .full (loop .size) (omega (arith, loop .inv .room))))
+    record { fits = parts-fit _ _ _ (arch-fits (loop .inv) (c .before .before .before .before .before .before .before .before .before .before .loop-test .taken) inside (args .table .now) (pre .1 .0) (lower .result) (getD (args .table .now) (loop .size) 0) (lower .ensures) (pre .1 .0 .full (loop .size) (part-le _ _ _ (loop .inv .room)))) .1 }
 
 read-path-add-number-2 : (t : ℕ) → read-path-lts.Need-add-number-2 (
   read-arch-below t,
@@ -369,7 +370,7 @@ read-path-add-number-2 t c =
     let read-arch = c .before .before .before .before .before .before .read-arch in
     let lower = c .before .before .lower in
     let inside = arch-good (args .d) (args .v) (args .n) (args .x + loop .size) (take (length (args .s .now) - loop .next) (drop (loop .next) (args .s .now))) (read-arch .result .good) (read-arch .result .next) (read-arch .result .size) (read-arch .result .number) (c .before .before .before .before .if2 .left) (read-arch .ensures) in
-    omega (arith, arch-fits (loop .inv) (omega arith) inside (args .table .now) (pre .1 .0) (lower .result) (getD (args .table .now) (loop .size) 0) (lower .ensures) (pre .1 .0 .full (loop .size) (omega (arith, loop .inv .room))))
+    record { fits = arch-fits (loop .inv) (c .before .before .before .before .before .before .before .before .before .before .loop-test .taken) inside (args .table .now) (pre .1 .0) (lower .result) (getD (args .table .now) (loop .size) 0) (lower .ensures) (pre .1 .0 .full (loop .size) (part-le _ _ _ (loop .inv .room))) }
 
 read-path-add-size : (t : ℕ) → read-path-lts.Need-add-size (
   read-arch-below t,
@@ -383,7 +384,7 @@ read-path-add-size t c =
     let loop = c .before .before .before .before .before .before .before .before .before .before .before .loop in
     let read-arch = c .before .before .before .before .before .before .read-arch in
     let inside = arch-good (args .d) (args .v) (args .n) (args .x + loop .size) (take (length (args .s .now) - loop .next) (drop (loop .next) (args .s .now))) (read-arch .result .good) (read-arch .result .next) (read-arch .result .size) (read-arch .result .number) (c .before .before .before .before .if2 .left) (read-arch .ensures) in
-    omega (arith, wide (loop .inv) (omega arith) inside, loop .inv .room, pre .1 .0 .small, family-small (args .d) (args .v) (pre .1 .0 .family))
+    record { fits = wide-fits (args .x) _ (args .v) _ (wide (loop .inv) (c .before .before .before .before .before .before .before .before .before .before .loop-test .taken) inside) (pre .1 .0 .small) .1 }
 
 read-path-add-size-2 : (t : ℕ) → read-path-lts.Need-add-size-2 (
   read-arch-below t,
@@ -397,7 +398,7 @@ read-path-add-size-2 t c =
     let loop = c .before .before .before .before .before .before .before .before .before .before .before .loop in
     let read-arch = c .before .before .before .before .before .before .read-arch in
     let inside = arch-good (args .d) (args .v) (args .n) (args .x + loop .size) (take (length (args .s .now) - loop .next) (drop (loop .next) (args .s .now))) (read-arch .result .good) (read-arch .result .next) (read-arch .result .size) (read-arch .result .number) (c .before .before .before .before .if2 .left) (read-arch .ensures) in
-    omega (arith, wide (loop .inv) (omega arith) inside, loop .inv .room, pre .1 .0 .small, family-small (args .d) (args .v) (pre .1 .0 .family))
+    record { fits = wide-fits (args .x) _ (args .v) _ (wide (loop .inv) (c .before .before .before .before .before .before .before .before .before .before .loop-test .taken) inside) (pre .1 .0 .small) .2 }
 
 read-path-add-next : (t : ℕ) → read-path-lts.Need-add-next (
   read-arch-below t,
@@ -411,7 +412,7 @@ read-path-add-next t c =
     let loop = c .before .before .before .before .before .before .before .before .before .before .before .before .loop in
     let read-arch = c .before .before .before .before .before .before .before .read-arch in
     let inside = arch-good (args .d) (args .v) (args .n) (args .x + loop .size) (take (length (args .s .now) - loop .next) (drop (loop .next) (args .s .now))) (read-arch .result .good) (read-arch .result .next) (read-arch .result .size) (read-arch .result .number) (c .before .before .before .before .before .if2 .left) (read-arch .ensures) in
-    omega (arith, moves (loop .inv) (omega arith) inside)
+    record { fits = lt-of-le-of-lt (moves (loop .inv) (c .before .before .before .before .before .before .before .before .before .before .before .loop-test .taken) inside .1) (good .0 .0) }
 
 read-path-loop-less : (t : ℕ) → read-path-lts.Need-loop-less (
   read-arch-below t,
@@ -424,7 +425,7 @@ read-path-loop-less t c =
     let loop = c .before .before .before .before .before .before .before .before .before .before .before .before .loop in
     let read-arch = c .before .before .before .before .before .before .before .read-arch in
     let inside = arch-good (args .d) (args .v) (args .n) (args .x + loop .size) (take (length (args .s .now) - loop .next) (drop (loop .next) (args .s .now))) (read-arch .result .good) (read-arch .result .next) (read-arch .result .size) (read-arch .result .number) (c .before .before .before .before .before .if2 .left) (read-arch .ensures) in
-    omega (arith, moves (loop .inv) (omega arith) inside)
+    (let m = moves (loop .inv) (c .before .before .before .before .before .before .before .before .before .before .before .loop-test .taken) inside in left-less _ _ _ (m .0) (m .1))
 
 read-path-loop-again : (t : ℕ) → read-path-lts.Need-loop-again (
   read-arch-below t,
@@ -439,7 +440,7 @@ read-path-loop-again t c =
     let read-arch = c .before .before .before .before .before .before .before .read-arch in
     let lower = c .before .before .before .lower in
     let inside = arch-good (args .d) (args .v) (args .n) (args .x + loop .size) (take (length (args .s .now) - loop .next) (drop (loop .next) (args .s .now))) (read-arch .result .good) (read-arch .result .next) (read-arch .result .size) (read-arch .result .number) (c .before .before .before .before .before .if2 .left) (read-arch .ensures) in
-    with-arch (loop .inv) (omega arith) inside (lower .result) (getD (args .table .now) (loop .size) 0) (lower .ensures) (pre .1 .0 .full (loop .size) (omega (arith, loop .inv .room)))
+    with-arch (loop .inv) (c .before .before .before .before .before .before .before .before .before .before .before .loop-test .taken) inside (lower .result) (getD (args .table .now) (loop .size) 0) (lower .ensures) (pre .1 .0 .full (loop .size) (part-le _ _ _ (loop .inv .room)))
 
 read-path-returns-2 : (t : ℕ) → read-path-lts.Need-returns-2 (
   read-arch-below t,
@@ -449,7 +450,7 @@ read-path-returns-2 : (t : ℕ) → read-path-lts.Need-returns-2 (
 ) (read-path-at t) read-path.Post read-path-Inv-loop read-path-μ-loop
 read-path-returns-2 t c =
     let loop = c .before .before .before .before .before .loop in
-    no-diagonal (loop .inv) (omega arith) (c .before .if3 .left) (c .if4 .taken)
+    no-diagonal (loop .inv) (c .before .before .before .before .loop-test .taken) (c .before .if3 .left) (c .if4 .taken)
 
 read-path-add-if5 : (t : ℕ) → read-path-lts.Need-add-if5 (
   read-arch-below t,
@@ -459,9 +460,8 @@ read-path-add-if5 : (t : ℕ) → read-path-lts.Need-add-if5 (
 ) (read-path-at t) read-path.Post read-path-Inv-loop read-path-μ-loop
 read-path-add-if5 t c =
     let pre = c .before .before .before .before .before .before .before .before .pre in
-    let args = c .before .before .before .before .before .before .before .before .args in
     let loop = c .before .before .before .before .before .loop in
-    omega (arith, loop .inv .room, pre .1 .0 .small, family-small (args .d) (args .v) (pre .1 .0 .family))
+    record { fits = sum-fits _ _ (loop .inv .room) (pre .1 .0 .small) .0 }
 
 read-path-add-if5-2 : (t : ℕ) → read-path-lts.Need-add-if5-2 (
   read-arch-below t,
@@ -471,9 +471,8 @@ read-path-add-if5-2 : (t : ℕ) → read-path-lts.Need-add-if5-2 (
 ) (read-path-at t) read-path.Post read-path-Inv-loop read-path-μ-loop
 read-path-add-if5-2 t c =
     let pre = c .before .before .before .before .before .before .before .before .pre in
-    let args = c .before .before .before .before .before .before .before .before .args in
     let loop = c .before .before .before .before .before .loop in
-    omega (arith, loop .inv .room, pre .1 .0 .small, family-small (args .d) (args .v) (pre .1 .0 .family))
+    record { fits = sum-fits _ _ (loop .inv .room) (pre .1 .0 .small) .1 }
 
 read-path-returns-3 : (t : ℕ) → read-path-lts.Need-returns-3 (
   read-arch-below t,
@@ -483,7 +482,7 @@ read-path-returns-3 : (t : ℕ) → read-path-lts.Need-returns-3 (
 ) (read-path-at t) read-path.Post read-path-Inv-loop read-path-μ-loop
 read-path-returns-3 t c =
     let loop = c .before .before .before .before .before .before .loop in
-    no-room (loop .inv) (omega arith) (c .before .before .if3 .left) (c .if5 .taken)
+    no-room (loop .inv) (c .before .before .before .before .before .loop-test .taken) (c .before .before .if3 .left) (c .if5 .taken)
 
 read-path-add-next-2 : (t : ℕ) → read-path-lts.Need-add-next-2 (
   read-arch-below t,
@@ -492,7 +491,7 @@ read-path-add-next-2 : (t : ℕ) → read-path-lts.Need-add-next-2 (
   lower-reads.Learnt,
 ) (read-path-at t) read-path.Post read-path-Inv-loop read-path-μ-loop
 read-path-add-next-2 t c =
-    omega arith
+    record { fits = next-fits _ _ (c .before .before .before .before .before .loop-test .taken) (c .before .before .before .before .before .before .before .before .before .good .0 .0) }
 
 read-path-add-size-3 : (t : ℕ) → read-path-lts.Need-add-size-3 (
   read-arch-below t,
@@ -502,9 +501,8 @@ read-path-add-size-3 : (t : ℕ) → read-path-lts.Need-add-size-3 (
 ) (read-path-at t) read-path.Post read-path-Inv-loop read-path-μ-loop
 read-path-add-size-3 t c =
     let pre = c .before .before .before .before .before .before .before .before .before .pre in
-    let args = c .before .before .before .before .before .before .before .before .before .args in
     let loop = c .before .before .before .before .before .before .loop in
-    omega (arith, loop .inv .room, pre .1 .0 .small, family-small (args .d) (args .v) (pre .1 .0 .family))
+    record { fits = sum-fits _ _ (part-le _ _ _ (loop .inv .room)) (pre .1 .0 .small) .1 }
 
 read-path-loop-less-2 : (t : ℕ) → read-path-lts.Need-loop-less-2 (
   read-arch-below t,
@@ -513,7 +511,7 @@ read-path-loop-less-2 : (t : ℕ) → read-path-lts.Need-loop-less-2 (
   lower-reads.Learnt,
 ) (read-path-at t) read-path.Post read-path-Inv-loop read-path-μ-loop
 read-path-loop-less-2 t c =
-    omega arith
+    left-one _ _ (c .before .before .before .before .before .loop-test .taken)
 
 read-path-loop-again-2 : (t : ℕ) → read-path-lts.Need-loop-again-2 (
   read-arch-below t,
@@ -523,7 +521,7 @@ read-path-loop-again-2 : (t : ℕ) → read-path-lts.Need-loop-again-2 (
 ) (read-path-at t) read-path.Post read-path-Inv-loop read-path-μ-loop
 read-path-loop-again-2 t c =
     let loop = c .before .before .before .before .before .before .loop in
-    with-dee (loop .inv) (omega arith) (c .before .before .if3 .left) (c .before .if4 .left) (c .if5 .left)
+    with-dee (loop .inv) (c .before .before .before .before .before .loop-test .taken) (c .before .before .if3 .left) (c .before .if4 .left) (c .if5 .left)
 
 read-path-returns-4 : (t : ℕ) → read-path-lts.Need-returns-4 (
   read-arch-below t,
@@ -542,7 +540,7 @@ read-path-returns-5 : (t : ℕ) → read-path-lts.Need-returns-5 (
 ) (read-path-at t) read-path.Post read-path-Inv-loop read-path-μ-loop
 read-path-returns-5 t c =
     let loop = c .before .before .before .before .loop in
-    ends-here (loop .inv) (omega arith) (c .before .if1 .left) (c .if3 .taken)
+    ends-here (loop .inv) (c .before .before .before .loop-test .taken) (c .before .if1 .left) (c .if3 .taken)
 
 pub +read-arch+read-path-spec : {M : Type 1} → statement M
 +read-arch+read-path-spec = close μ-read-arch μ-read-path (λ t. read-arch-lts.spec (

@@ -1,8 +1,9 @@
 -- What is left of the room falls at each `N`.
-use native.Mathlib.Omega.{arith}
+use native.Mathlib.Nat.{le-trans, lt-of-le-of-lt}
 use lib.ListN.{length, getD}
+use Rattle.arch.proofs.Sizes.{not-none, one-less, one-le, le-more, falls-other, falls-less, byte-fits, parts-fit, back-less, back-le, rest-less, rest-le, both-less, both-fits, both-le}
 use Rattle.arch.proofs.ReadingBack.{part-good, part-bad, ok-none, ok-end, no-room, no-inside, inner-within, no-start, no-east, no-first, both-small, ok-arch, arch-fits}
-use Prim.Native.Nat.{ℕ, _+_, _-_, _*_, _<_}
+use Prim.Native.Nat.{ℕ, _+_, _-_, _*_, _<_, zero-le}
 use borrow.Fn.Kinds.{In}
 use borrow.Fn.PlainCycle.{Measures, is, falls, and}
 use Rattle.arch.proofs.reverse.closing.Reads as closing
@@ -40,7 +41,7 @@ closing-sub-l : (t : ℕ) → closing-lts.Need-sub-l (
   lower-reads.Learnt,
 ) (closing-at t) closing.Post
 closing-sub-l t c =
-    omega arith
+    c .before .before .pre .1 .2
 
 closing-returns : (t : ℕ) → closing-lts.Need-returns (
   read-below t,
@@ -60,7 +61,7 @@ closing-sub-read : (t : ℕ) → closing-lts.Need-sub-read (
   lower-reads.Learnt,
 ) (closing-at t) closing.Post
 closing-sub-read t c =
-    omega arith
+    zero-le
 
 closing-part-read-start : (t : ℕ) → closing-lts.Need-part-read-start (
   read-below t,
@@ -69,7 +70,7 @@ closing-part-read-start : (t : ℕ) → closing-lts.Need-part-read-start (
   lower-reads.Learnt,
 ) (closing-at t) closing.Post
 closing-part-read-start t c =
-    omega arith
+    zero-le
 
 closing-part-read-end : (t : ℕ) → closing-lts.Need-part-read-end (
   read-below t,
@@ -78,7 +79,7 @@ closing-part-read-end : (t : ℕ) → closing-lts.Need-part-read-end (
   lower-reads.Learnt,
 ) (closing-at t) closing.Post
 closing-part-read-end t c =
-    omega arith
+    one-le _
 
 closing-sub-read-2 : (t : ℕ) → closing-lts.Need-sub-read-2 (
   read-below t,
@@ -87,7 +88,7 @@ closing-sub-read-2 : (t : ℕ) → closing-lts.Need-sub-read-2 (
   lower-reads.Learnt,
 ) (closing-at t) closing.Post
 closing-sub-read-2 t c =
-    omega arith
+    not-none _ (c .before .if1 .left)
 
 closing-read-requires : (t : ℕ) → closing-lts.Need-read-requires (
   read-below t,
@@ -97,7 +98,7 @@ closing-read-requires : (t : ℕ) → closing-lts.Need-read-requires (
 ) (closing-at t) closing.Post
 closing-read-requires t c κs =
     let pre = c .before .before .before .before .pre in
-    (omega arith, (pre .1 .0, omega arith))
+    (falls-less _ _ _ (pre .0) (one-less _ (not-none _ (c .before .if1 .left))), (pre .1 .0, le-trans (one-le _) (pre .1 .1)))
 
 closing-returns-2 : (t : ℕ) → closing-lts.Need-returns-2 (
   read-below t,
@@ -109,7 +110,7 @@ closing-returns-2 t c =
     let args = c .before .before .before .before .before .before .before .args in
     let pre = c .before .before .before .before .before .before .before .pre in
     let read = c .before .before .read in
-    no-inside (args .room) (args .s .now) (pre .1 .2) (pre .1 .3) (omega arith) (part-bad (read .result .good) (args .room - 1) (args .s .now) (length (args .s .now) - 1) (read .result .at) (read .result .size) (read .result .number) (c .if2 .taken) (read .ensures))
+    no-inside (args .room) (args .s .now) (pre .1 .2) (pre .1 .3) (not-none _ (c .before .before .before .before .if1 .left)) (part-bad (read .result .good) (args .room - 1) (args .s .now) (length (args .s .now) - 1) (read .result .at) (read .result .size) (read .result .number) (c .if2 .taken) (read .ensures))
 
 closing-returns-3 : (t : ℕ) → closing-lts.Need-returns-3 (
   read-below t,
@@ -122,7 +123,7 @@ closing-returns-3 t c =
     let pre = c .before .before .before .before .before .before .before .before .before .pre in
     let read = c .before .before .before .before .read in
     let inside = part-good (read .result .good) (args .room - 1) (args .s .now) (length (args .s .now) - 1) (read .result .at) (read .result .size) (read .result .number) (c .before .before .if2 .left) (read .ensures) in
-    no-start (args .room) (args .s .now) (pre .1 .2) (pre .1 .3) (omega arith) inside (c .if3 .taken)
+    no-start (args .room) (args .s .now) (pre .1 .2) (pre .1 .3) (not-none _ (c .before .before .before .before .before .before .if1 .left)) inside (c .if3 .taken)
 
 closing-sub-f : (t : ℕ) → closing-lts.Need-sub-f (
   read-below t,
@@ -131,7 +132,7 @@ closing-sub-f : (t : ℕ) → closing-lts.Need-sub-f (
   lower-reads.Learnt,
 ) (closing-at t) closing.Post
 closing-sub-f t c =
-    omega arith
+    not-none _ (c .before .if3 .left)
 
 closing-shared-slice-read-if4 : (t : ℕ) → closing-lts.Need-shared-slice-read-if4 (
   read-below t,
@@ -144,7 +145,7 @@ closing-shared-slice-read-if4 t c =
     let pre = c .before .before .before .before .before .before .before .before .before .before .before .pre in
     let read = c .before .before .before .before .before .before .read in
     let inside = part-good (read .result .good) (args .room - 1) (args .s .now) (length (args .s .now) - 1) (read .result .at) (read .result .size) (read .result .number) (c .before .before .before .before .if2 .left) (read .ensures) in
-    omega (arith, inner-within (args .room) (args .s .now) (pre .1 .2) (pre .1 .3) (omega arith) inside)
+    back-less _ _ (pre .1 .2) (inner-within (args .room) (args .s .now) (pre .1 .2) (pre .1 .3) (not-none _ (c .before .before .before .before .before .before .before .before .if1 .left)) inside)
 
 closing-returns-4 : (t : ℕ) → closing-lts.Need-returns-4 (
   read-below t,
@@ -158,7 +159,7 @@ closing-returns-4 t c =
     let read = c .before .before .before .before .before .before .before .read in
     let if2 = c .before .before .before .before .before .if2 in
     let inside = part-good (read .result .good) (args .room - 1) (args .s .now) (length (args .s .now) - 1) (read .result .at) (read .result .size) (read .result .number) (if2 .left) (read .ensures) in
-    no-east (args .room) (args .s .now) (pre .1 .2) (pre .1 .3) (omega arith) inside (omega arith) (c .if4 .taken)
+    no-east (args .room) (args .s .now) (pre .1 .2) (pre .1 .3) (not-none _ (c .before .before .before .before .before .before .before .before .before .if1 .left)) inside (not-none _ (c .before .before .before .if3 .left)) (c .if4 .taken)
 
 closing-sub-read-3 : (t : ℕ) → closing-lts.Need-sub-read-3 (
   read-below t,
@@ -167,7 +168,7 @@ closing-sub-read-3 : (t : ℕ) → closing-lts.Need-sub-read-3 (
   lower-reads.Learnt,
 ) (closing-at t) closing.Post
 closing-sub-read-3 t c =
-    omega arith
+    zero-le
 
 closing-part-read-start-2 : (t : ℕ) → closing-lts.Need-part-read-start-2 (
   read-below t,
@@ -176,7 +177,7 @@ closing-part-read-start-2 : (t : ℕ) → closing-lts.Need-part-read-start-2 (
   lower-reads.Learnt,
 ) (closing-at t) closing.Post
 closing-part-read-start-2 t c =
-    omega arith
+    zero-le
 
 closing-part-read-end-2 : (t : ℕ) → closing-lts.Need-part-read-end-2 (
   read-below t,
@@ -190,7 +191,7 @@ closing-part-read-end-2 t c =
     let read = c .before .before .before .before .before .before .before .read in
     let if2 = c .before .before .before .before .before .if2 in
     let inside = part-good (read .result .good) (args .room - 1) (args .s .now) (length (args .s .now) - 1) (read .result .at) (read .result .size) (read .result .number) (if2 .left) (read .ensures) in
-    omega (arith, inner-within (args .room) (args .s .now) (pre .1 .2) (pre .1 .3) (omega arith) inside)
+    back-le _ _ (inner-within (args .room) (args .s .now) (pre .1 .2) (pre .1 .3) (not-none _ (c .before .before .before .before .before .before .before .before .before .if1 .left)) inside)
 
 closing-sub-read-4 : (t : ℕ) → closing-lts.Need-sub-read-4 (
   read-below t,
@@ -199,7 +200,7 @@ closing-sub-read-4 : (t : ℕ) → closing-lts.Need-sub-read-4 (
   lower-reads.Learnt,
 ) (closing-at t) closing.Post
 closing-sub-read-4 t c =
-    omega arith
+    not-none _ (c .before .before .before .before .before .before .before .before .before .before .if1 .left)
 
 closing-sub-read-5 : (t : ℕ) → closing-lts.Need-sub-read-5 (
   read-below t,
@@ -212,7 +213,7 @@ closing-sub-read-5 t c =
     let read = c .before .before .before .before .before .before .before .before .before .read in
     let if2 = c .before .before .before .before .before .before .before .if2 in
     let inside = part-good (read .result .good) (args .room - 1) (args .s .now) (length (args .s .now) - 1) (read .result .at) (read .result .size) (read .result .number) (if2 .left) (read .ensures) in
-    omega (arith, inside .small)
+    inside .small
 
 closing-read-requires-2 : (t : ℕ) → closing-lts.Need-read-requires-2 (
   read-below t,
@@ -221,12 +222,8 @@ closing-read-requires-2 : (t : ℕ) → closing-lts.Need-read-requires-2 (
   lower-reads.Learnt,
 ) (closing-at t) closing.Post
 closing-read-requires-2 t c κs =
-    let args = c .before .before .before .before .before .before .before .before .before .before .before .before .before .before .args in
     let pre = c .before .before .before .before .before .before .before .before .before .before .before .before .before .before .pre in
-    let read = c .before .before .before .before .before .before .before .before .before .read in
-    let if2 = c .before .before .before .before .before .before .before .if2 in
-    let inside = part-good (read .result .good) (args .room - 1) (args .s .now) (length (args .s .now) - 1) (read .result .at) (read .result .size) (read .result .number) (if2 .left) (read .ensures) in
-    (omega (arith, inside .small), (pre .1 .0, omega arith))
+    (falls-less _ _ _ (pre .0) (rest-less _ _ (not-none _ (c .before .before .before .before .before .before .before .before .before .before .before .if1 .left))), (pre .1 .0, rest-le _ _ _ (pre .1 .1)))
 
 closing-returns-5 : (t : ℕ) → closing-lts.Need-returns-5 (
   read-below t,
@@ -244,7 +241,7 @@ closing-returns-5 t c =
     let if4 = c .before .before .before .before .before .if4 in
     let read2 = c .before .before .read2 in
     let inside = part-good (read .result .good) (args .room - 1) (args .s .now) (length (args .s .now) - 1) (read .result .at) (read .result .size) (read .result .number) (if2 .left) (read .ensures) in
-    no-first (args .room) (args .s .now) (pre .1 .2) (pre .1 .3) (omega arith) inside (omega arith) (if4 .left) (part-bad (read2 .result .good) (args .room - 1 - read .result .size) (args .s .now) (read .result .at - 1) (read2 .result .at) (read2 .result .size) (read2 .result .number) (c .if5 .taken) (read2 .ensures))
+    no-first (args .room) (args .s .now) (pre .1 .2) (pre .1 .3) (not-none _ (if1 .left)) inside (not-none _ (if3 .left)) (if4 .left) (part-bad (read2 .result .good) (args .room - 1 - read .result .size) (args .s .now) (read .result .at - 1) (read2 .result .at) (read2 .result .size) (read2 .result .number) (c .if5 .taken) (read2 .ensures))
 
 closing-add-m : (t : ℕ) → closing-lts.Need-add-m (
   read-below t,
@@ -263,7 +260,7 @@ closing-add-m t c =
     let read2 = c .before .before .before .read2 in
     let inside = part-good (read .result .good) (args .room - 1) (args .s .now) (length (args .s .now) - 1) (read .result .at) (read .result .size) (read .result .number) (if2 .left) (read .ensures) in
     let first = part-good (read2 .result .good) (args .room - 1 - read .result .size) (args .s .now) (read .result .at - 1) (read2 .result .at) (read2 .result .size) (read2 .result .number) (c .before .if5 .left) (read2 .ensures) in
-    omega (arith, both-small (args .room) (args .s .now) (pre .1 .2) (pre .1 .3) (omega arith) inside (omega arith) (if4 .left) first, pre .1 .0 .small)
+    record { fits = both-fits _ _ _ _ (both-small (args .room) (args .s .now) (pre .1 .2) (pre .1 .3) (not-none _ (if1 .left)) inside (not-none _ (if3 .left)) (if4 .left) first) (pre .1 .1) (pre .1 .0 .small) .0 }
 
 closing-lower-requires : (t : ℕ) → closing-lts.Need-lower-requires (
   read-below t,
@@ -282,7 +279,7 @@ closing-lower-requires t c κs =
     let read2 = c .before .before .before .read2 in
     let inside = part-good (read .result .good) (args .room - 1) (args .s .now) (length (args .s .now) - 1) (read .result .at) (read .result .size) (read .result .number) (if2 .left) (read .ensures) in
     let first = part-good (read2 .result .good) (args .room - 1 - read .result .size) (args .s .now) (read .result .at - 1) (read2 .result .at) (read2 .result .size) (read2 .result .number) (c .before .if5 .left) (read2 .ensures) in
-    (pre .1 .0, omega (arith, both-small (args .room) (args .s .now) (pre .1 .2) (pre .1 .3) (omega arith) inside (omega arith) (if4 .left) first), omega arith)
+    (pre .1 .0, both-less _ _ _ _ (both-small (args .room) (args .s .now) (pre .1 .2) (pre .1 .3) (not-none _ (if1 .left)) inside (not-none _ (if3 .left)) (if4 .left) first) (pre .1 .1), le-more _ _)
 
 closing-mul-r : (t : ℕ) → closing-lts.Need-mul-r (
   read-below t,
@@ -301,7 +298,7 @@ closing-mul-r t c =
     let read2 = c .before .before .before .before .read2 in
     let inside = part-good (read .result .good) (args .room - 1) (args .s .now) (length (args .s .now) - 1) (read .result .at) (read .result .size) (read .result .number) (if2 .left) (read .ensures) in
     let first = part-good (read2 .result .good) (args .room - 1 - read .result .size) (args .s .now) (read .result .at - 1) (read2 .result .at) (read2 .result .size) (read2 .result .number) (c .before .before .if5 .left) (read2 .ensures) in
-    omega (arith, both-small (args .room) (args .s .now) (pre .1 .2) (pre .1 .3) (omega arith) inside (omega arith) (if4 .left) first, pre .1 .0 .small)
+    record { fits = byte-fits _ _ (both-le _ _ _ _ (both-small (args .room) (args .s .now) (pre .1 .2) (pre .1 .3) (not-none _ (if1 .left)) inside (not-none _ (if3 .left)) (if4 .left) first) (pre .1 .1)) (pre .1 .0 .small) }
 
 closing-shared-slice-read-r : (t : ℕ) → closing-lts.Need-shared-slice-read-r (
   read-below t,
@@ -320,7 +317,7 @@ closing-shared-slice-read-r t c =
     let read2 = c .before .before .before .before .before .read2 in
     let inside = part-good (read .result .good) (args .room - 1) (args .s .now) (length (args .s .now) - 1) (read .result .at) (read .result .size) (read .result .number) (if2 .left) (read .ensures) in
     let first = part-good (read2 .result .good) (args .room - 1 - read .result .size) (args .s .now) (read .result .at - 1) (read2 .result .at) (read2 .result .size) (read2 .result .number) (c .before .before .before .if5 .left) (read2 .ensures) in
-    omega (arith, both-small (args .room) (args .s .now) (pre .1 .2) (pre .1 .3) (omega arith) inside (omega arith) (if4 .left) first, pre .1 .0 .long)
+    lt-of-le-of-lt (both-le _ _ _ _ (both-small (args .room) (args .s .now) (pre .1 .2) (pre .1 .3) (not-none _ (if1 .left)) inside (not-none _ (if3 .left)) (if4 .left) first) (pre .1 .1)) (pre .1 .0 .long)
 
 closing-mul-r-2 : (t : ℕ) → closing-lts.Need-mul-r-2 (
   read-below t,
@@ -341,7 +338,7 @@ closing-mul-r-2 t c =
     let lower = c .before .before .lower in
     let inside = part-good (read .result .good) (args .room - 1) (args .s .now) (length (args .s .now) - 1) (read .result .at) (read .result .size) (read .result .number) (if2 .left) (read .ensures) in
     let first = part-good (read2 .result .good) (args .room - 1 - read .result .size) (args .s .now) (read .result .at - 1) (read2 .result .at) (read2 .result .size) (read2 .result .number) (if5 .left) (read2 .ensures) in
-    omega (arith, arch-fits (args .room) (args .s .now) (pre .1 .2) (pre .1 .3) (omega arith) inside (omega arith) (if4 .left) first (args .n) (args .table .now) (pre .1 .0) (pre .1 .1) (lower .result) (getD (args .table .now) (read2 .result .size) 0) (lower .ensures) (pre .1 .0 .full (read2 .result .size) (omega (arith, both-small (args .room) (args .s .now) (pre .1 .2) (pre .1 .3) (omega arith) inside (omega arith) (if4 .left) first))))
+    record { fits = parts-fit _ _ _ (arch-fits (args .room) (args .s .now) (pre .1 .2) (pre .1 .3) (not-none _ (if1 .left)) inside (not-none _ (if3 .left)) (if4 .left) first (args .n) (args .table .now) (pre .1 .0) (pre .1 .1) (lower .result) (getD (args .table .now) (read2 .result .size) 0) (lower .ensures) (pre .1 .0 .full (read2 .result .size) (both-le _ _ _ _ (both-small (args .room) (args .s .now) (pre .1 .2) (pre .1 .3) (not-none _ (if1 .left)) inside (not-none _ (if3 .left)) (if4 .left) first) (pre .1 .1)))) .0 }
 
 closing-add-r : (t : ℕ) → closing-lts.Need-add-r (
   read-below t,
@@ -362,7 +359,7 @@ closing-add-r t c =
     let lower = c .before .before .before .lower in
     let inside = part-good (read .result .good) (args .room - 1) (args .s .now) (length (args .s .now) - 1) (read .result .at) (read .result .size) (read .result .number) (if2 .left) (read .ensures) in
     let first = part-good (read2 .result .good) (args .room - 1 - read .result .size) (args .s .now) (read .result .at - 1) (read2 .result .at) (read2 .result .size) (read2 .result .number) (if5 .left) (read2 .ensures) in
-    omega (arith, arch-fits (args .room) (args .s .now) (pre .1 .2) (pre .1 .3) (omega arith) inside (omega arith) (if4 .left) first (args .n) (args .table .now) (pre .1 .0) (pre .1 .1) (lower .result) (getD (args .table .now) (read2 .result .size) 0) (lower .ensures) (pre .1 .0 .full (read2 .result .size) (omega (arith, both-small (args .room) (args .s .now) (pre .1 .2) (pre .1 .3) (omega arith) inside (omega arith) (if4 .left) first))))
+    record { fits = parts-fit _ _ _ (arch-fits (args .room) (args .s .now) (pre .1 .2) (pre .1 .3) (not-none _ (if1 .left)) inside (not-none _ (if3 .left)) (if4 .left) first (args .n) (args .table .now) (pre .1 .0) (pre .1 .1) (lower .result) (getD (args .table .now) (read2 .result .size) 0) (lower .ensures) (pre .1 .0 .full (read2 .result .size) (both-le _ _ _ _ (both-small (args .room) (args .s .now) (pre .1 .2) (pre .1 .3) (not-none _ (if1 .left)) inside (not-none _ (if3 .left)) (if4 .left) first) (pre .1 .1)))) .1 }
 
 closing-add-r-2 : (t : ℕ) → closing-lts.Need-add-r-2 (
   read-below t,
@@ -383,7 +380,7 @@ closing-add-r-2 t c =
     let lower = c .before .before .before .lower in
     let inside = part-good (read .result .good) (args .room - 1) (args .s .now) (length (args .s .now) - 1) (read .result .at) (read .result .size) (read .result .number) (if2 .left) (read .ensures) in
     let first = part-good (read2 .result .good) (args .room - 1 - read .result .size) (args .s .now) (read .result .at - 1) (read2 .result .at) (read2 .result .size) (read2 .result .number) (if5 .left) (read2 .ensures) in
-    omega (arith, arch-fits (args .room) (args .s .now) (pre .1 .2) (pre .1 .3) (omega arith) inside (omega arith) (if4 .left) first (args .n) (args .table .now) (pre .1 .0) (pre .1 .1) (lower .result) (getD (args .table .now) (read2 .result .size) 0) (lower .ensures) (pre .1 .0 .full (read2 .result .size) (omega (arith, both-small (args .room) (args .s .now) (pre .1 .2) (pre .1 .3) (omega arith) inside (omega arith) (if4 .left) first))))
+    record { fits = arch-fits (args .room) (args .s .now) (pre .1 .2) (pre .1 .3) (not-none _ (if1 .left)) inside (not-none _ (if3 .left)) (if4 .left) first (args .n) (args .table .now) (pre .1 .0) (pre .1 .1) (lower .result) (getD (args .table .now) (read2 .result .size) 0) (lower .ensures) (pre .1 .0 .full (read2 .result .size) (both-le _ _ _ _ (both-small (args .room) (args .s .now) (pre .1 .2) (pre .1 .3) (not-none _ (if1 .left)) inside (not-none _ (if3 .left)) (if4 .left) first) (pre .1 .1))) }
 
 closing-add-t18 : (t : ℕ) → closing-lts.Need-add-t18 (
   read-below t,
@@ -402,7 +399,7 @@ closing-add-t18 t c =
     let read2 = c .before .before .before .before .before .before .before .read2 in
     let inside = part-good (read .result .good) (args .room - 1) (args .s .now) (length (args .s .now) - 1) (read .result .at) (read .result .size) (read .result .number) (if2 .left) (read .ensures) in
     let first = part-good (read2 .result .good) (args .room - 1 - read .result .size) (args .s .now) (read .result .at - 1) (read2 .result .at) (read2 .result .size) (read2 .result .number) (c .before .before .before .before .before .if5 .left) (read2 .ensures) in
-    omega (arith, both-small (args .room) (args .s .now) (pre .1 .2) (pre .1 .3) (omega arith) inside (omega arith) (if4 .left) first, pre .1 .0 .small)
+    record { fits = both-fits _ _ _ _ (both-small (args .room) (args .s .now) (pre .1 .2) (pre .1 .3) (not-none _ (if1 .left)) inside (not-none _ (if3 .left)) (if4 .left) first) (pre .1 .1) (pre .1 .0 .small) .1 }
 
 closing-returns-6 : (t : ℕ) → closing-lts.Need-returns-6 (
   read-below t,
@@ -423,7 +420,7 @@ closing-returns-6 t c =
     let lower = c .before .before .before .lower in
     let inside = part-good (read .result .good) (args .room - 1) (args .s .now) (length (args .s .now) - 1) (read .result .at) (read .result .size) (read .result .number) (if2 .left) (read .ensures) in
     let first = part-good (read2 .result .good) (args .room - 1 - read .result .size) (args .s .now) (read .result .at - 1) (read2 .result .at) (read2 .result .size) (read2 .result .number) (if5 .left) (read2 .ensures) in
-    ok-arch (args .room) (args .s .now) (pre .1 .2) (pre .1 .3) (omega arith) inside (omega arith) (if4 .left) first (lower .result) (getD (args .table .now) (read2 .result .size) 0) (lower .ensures) (pre .1 .0 .full (read2 .result .size) (omega (arith, both-small (args .room) (args .s .now) (pre .1 .2) (pre .1 .3) (omega arith) inside (omega arith) (if4 .left) first)))
+    ok-arch (args .room) (args .s .now) (pre .1 .2) (pre .1 .3) (not-none _ (if1 .left)) inside (not-none _ (if3 .left)) (if4 .left) first (lower .result) (getD (args .table .now) (read2 .result .size) 0) (lower .ensures) (pre .1 .0 .full (read2 .result .size) (both-le _ _ _ _ (both-small (args .room) (args .s .now) (pre .1 .2) (pre .1 .3) (not-none _ (if1 .left)) inside (not-none _ (if3 .left)) (if4 .left) first) (pre .1 .1)))
 
 read-returns :
     (t : ℕ) → read-lts.Need-returns (closing-below t, closing.Post) (read-at t) read.Post
@@ -433,14 +430,14 @@ read-returns t c =
 
 read-sub-l : (t : ℕ) → read-lts.Need-sub-l (closing-below t, closing.Post) (read-at t) read.Post
 read-sub-l t c =
-    omega arith
+    not-none _ (c .if1 .left)
 
 read-shared-slice-read-if2 : (t : ℕ) → read-lts.Need-shared-slice-read-if2 (
   closing-below t,
   closing.Post,
 ) (read-at t) read.Post
 read-shared-slice-read-if2 t c =
-    omega arith
+    one-less _ (not-none _ (c .before .if1 .left))
 
 read-returns-2 :
     (t : ℕ) → read-lts.Need-returns-2 (closing-below t, closing.Post) (read-at t) read.Post
@@ -452,7 +449,7 @@ read-closing-requires :
     (t : ℕ) → read-lts.Need-closing-requires (closing-below t, closing.Post) (read-at t) read.Post
 read-closing-requires t c κs =
     let pre = c .before .before .before .before .before .pre in
-    (omega arith, (pre .1 .0, pre .1 .1, omega arith, c .if2 .left))
+    (falls-other _ _ (pre .0), (pre .1 .0, pre .1 .1, not-none _ (c .before .before .if1 .left), c .if2 .left))
 
 read-returns-3 :
     (t : ℕ) → read-lts.Need-returns-3 (closing-below t, closing.Post) (read-at t) read.Post

@@ -1,10 +1,9 @@
 use Prim.Native.Nat.{_+_, _≤_, _<_, _-_, _*_, _^_}
 use mathlib.Core.Path.{_≡_, refl}
 use native.Mathlib.Omega.{arith}
-use borrow.Author.Needs.{needs}
 use lib.ListN.{length, length-set}
 use Rattle.grid.specs.Cells.{Run, Column}
-use Rattle.grid.proofs.Sums.{Sources4, sum4, parts4, at-fits, at-byte, at-in, to-fits, to-byte, to-in, column-none, column-more, column-at}
+use Rattle.grid.proofs.Sums.{Sources4, sum4, parts4, at-fits, at-byte, at-in, to-fits, to-byte, to-in, below-4, below-8, start-in, no-cell, more-le, more-fits, fewer-left, all-of, column-none, column-more, column-at}
 use Rattle.grid.proofs.column.column4.Statement.{statement}
 use Rattle.grid.proofs.column.column4.Tie as tie
 
@@ -16,19 +15,19 @@ abbrev μ-loop : tie.MeasureT-loop
 μ-loop val₀ sa off x d n s0 s1 s2 s3 i₀ val i = n - i
 
 source-requires : tie.Need-source-requires Inv-loop μ-loop
-source-requires c κs = (omega arith, c .before .pre .back 0 (omega arith))
+source-requires c κs = (below-8 .0, c .before .pre .back 0 (below-4 .0))
 
 source-requires-2 : tie.Need-source-requires-2 Inv-loop μ-loop
-source-requires-2 c κs = (omega arith, c .before .before .pre .back 1 (omega arith))
+source-requires-2 c κs = (below-8 .1, c .before .before .pre .back 1 (below-4 .1))
 
 source-requires-3 : tie.Need-source-requires-3 Inv-loop μ-loop
-source-requires-3 c κs = (omega arith, c .before .before .before .pre .back 2 (omega arith))
+source-requires-3 c κs = (below-8 .2, c .before .before .before .pre .back 2 (below-4 .2))
 
 source-requires-4 : tie.Need-source-requires-4 Inv-loop μ-loop
-source-requires-4 c κs = (omega arith, c .before .before .before .before .pre .back 3 (omega arith))
+source-requires-4 c κs = (below-8 .3, c .before .before .before .before .pre .back 3 (below-4 .3))
 
 loop-holds : tie.Need-loop-holds Inv-loop μ-loop
-loop-holds c = (omega arith, refl, c .before .before .before .before .before .pre .inside, record { is0 = c .before .before .before .source .ensures; end0 = omega (arith, c .before .before .before .before .before .pre .apart 0 (omega arith), c .before .before .before .source .ensures); is1 = c .before .before .source2 .ensures; end1 = omega (arith, c .before .before .before .before .before .pre .apart 1 (omega arith), c .before .before .source2 .ensures); is2 = c .before .source3 .ensures; end2 = omega (arith, c .before .before .before .before .before .pre .apart 2 (omega arith), c .before .source3 .ensures); is3 = c .source4 .ensures; end3 = omega (arith, c .before .before .before .before .before .pre .apart 3 (omega arith), c .source4 .ensures) }, c .before .before .before .before .before .pre, column-none _ _ _ _ _ _, omega (arith, c .before .before .before .before .before .pre .inside))
+loop-holds c = (no-cell _, refl, c .before .before .before .before .before .pre .inside, record { is0 = c .before .before .before .source .ensures; end0 = start-in _ _ _ _ (c .before .before .before .source .ensures) (c .before .before .before .before .before .pre .apart 0 (below-4 .0)); is1 = c .before .before .source2 .ensures; end1 = start-in _ _ _ _ (c .before .before .source2 .ensures) (c .before .before .before .before .before .pre .apart 1 (below-4 .1)); is2 = c .before .source3 .ensures; end2 = start-in _ _ _ _ (c .before .source3 .ensures) (c .before .before .before .before .before .pre .apart 2 (below-4 .2)); is3 = c .source4 .ensures; end3 = start-in _ _ _ _ (c .source4 .ensures) (c .before .before .before .before .before .pre .apart 3 (below-4 .3)) }, c .before .before .before .before .before .pre, column-none _ _ _ _ _ _, omega (arith, c .before .before .before .before .before .pre .inside))
 
 add-val : tie.Need-add-val Inv-loop μ-loop
 add-val c = record { fits = at-fits _ _ _ _ _ _ (c .loop-test .taken) (c .before .loop .inv .3 .end0) (c .before .loop .inv .2) (c .before .loop .inv .1) (c .before .loop .inv .6) }
@@ -85,19 +84,19 @@ slice-write-val : tie.Need-slice-write-val Inv-loop μ-loop
 slice-write-val c = to-in _ _ _ _ _ (c .before .before .before .before .loop-test .taken) (c .before .before .before .before .before .loop .inv .2) (c .before .before .before .before .before .loop .inv .1) (c .before .before .before .before .before .loop .inv .6)
 
 add-i : tie.Need-add-i Inv-loop μ-loop
-add-i c = omega arith
+add-i c = record { fits = more-fits _ _ (c .before .before .before .before .loop-test .taken) _ (c .before .before .before .before .before .loop .inv .6) }
 
 loop-less : tie.Need-loop-less Inv-loop μ-loop
-loop-less c = omega arith
+loop-less c = fewer-left _ _ (c .before .before .before .before .loop-test .taken)
 
 loop-again : tie.Need-loop-again Inv-loop μ-loop
-loop-again c = (omega arith, simp length-set (c .before .before .before .before .before .loop .inv .1), c .before .before .before .before .before .loop .inv .2, c .before .before .before .before .before .loop .inv .3, c .before .before .before .before .before .loop .inv .4, column-more _ _ _ _ _ _ _ _ _ _ (c .before .before .before .before .before .loop .inv .5) refl (omega arith) (sum4 (c .before .before .before .before .before .loop .inv .5) (c .before .before .before .before .loop-test .taken) (c .before .before .before .before .before .loop .inv .3) (c .before .before .before .before .before .loop .inv .4) .0), c .before .before .before .before .before .loop .inv .6)
+loop-again c = (more-le _ _ (c .before .before .before .before .loop-test .taken), simp length-set (c .before .before .before .before .before .loop .inv .1), c .before .before .before .before .before .loop .inv .2, c .before .before .before .before .before .loop .inv .3, c .before .before .before .before .before .loop .inv .4, column-more _ _ _ _ _ _ _ _ _ _ (c .before .before .before .before .before .loop .inv .5) refl (to-in _ _ _ _ _ (c .before .before .before .before .loop-test .taken) (c .before .before .before .before .before .loop .inv .2) (c .before .before .before .before .before .loop .inv .1) (c .before .before .before .before .before .loop .inv .6)) (sum4 (c .before .before .before .before .before .loop .inv .5) (c .before .before .before .before .loop-test .taken) (c .before .before .before .before .before .loop .inv .3) (c .before .before .before .before .before .loop .inv .4) .0), c .before .before .before .before .before .loop .inv .6)
 
 same-length : tie.Need-same-length Inv-loop μ-loop
-same-length c = search needs
+same-length c = c .before .loop .inv .1
 
 returns : tie.Need-returns Inv-loop μ-loop
-returns c = column-at _ _ _ _ _ _ _ _ _ (c .before .loop .inv .5) (omega arith)
+returns c = column-at _ _ _ _ _ _ _ _ _ (c .before .loop .inv .5) (all-of _ _ (c .before .loop .inv .0) (c .loop-test .left))
 
 pub column4-spec : {M : Type 1} → statement M
 column4-spec =

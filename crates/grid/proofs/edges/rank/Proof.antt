@@ -1,7 +1,5 @@
-use native.Mathlib.Omega.{arith}
-use borrow.Author.Needs.{needs}
-use Rattle.grid.proofs.Phases.{end-cells}
-use Rattle.grid.proofs.Numbers.{Walking, walking-start, stepped, walking-end}
+use Rattle.grid.proofs.Phases.{place-sum, end-placed}
+use Rattle.grid.proofs.Numbers.{Walking, walking-start, last-in, stepped, walking-end}
 use Rattle.grid.proofs.edges.rank.Statement.{statement}
 use Rattle.grid.proofs.edges.rank.Tie as tie
 
@@ -13,91 +11,91 @@ abbrev μ-loop : tie.MeasureT-loop
 
 add-p : tie.Need-add-p Inv-loop μ-loop
 add-p c =
-    let q = c .before .before .pre .ready .sizes in let h = end-cells (c .before .before .pre .ready) in omega arith
+    record { fits = end-placed (c .before .before .pre .ready .sizes) .next }
 
 add-p-2 : tie.Need-add-p-2 Inv-loop μ-loop
 add-p-2 c =
-    let q = c .before .before .pre .ready .sizes in let h = end-cells (c .before .before .pre .ready) in omega arith
+    record { fits = end-placed (c .before .before .pre .ready .sizes) .tall }
 
 add-p-3 : tie.Need-add-p-3 Inv-loop μ-loop
 add-p-3 c =
-    let q = c .before .before .pre .ready .sizes in let h = end-cells (c .before .before .pre .ready) in omega arith
+    record { fits = end-placed (c .before .before .pre .ready .sizes) .stride }
 
 mul-p : tie.Need-mul-p Inv-loop μ-loop
 mul-p c =
-    let q = c .before .before .pre .ready .sizes in let h = end-cells (c .before .before .pre .ready) in omega arith
+    record { fits = end-placed (c .before .before .pre .ready .sizes) .column }
 
 add-p-4 : tie.Need-add-p-4 Inv-loop μ-loop
 add-p-4 c =
-    let q = c .before .before .pre .ready .sizes in let h = end-cells (c .before .before .pre .ready) in omega arith
+    record { fits = end-placed (c .before .before .pre .ready .sizes) .base }
 
 add-p-5 : tie.Need-add-p-5 Inv-loop μ-loop
 add-p-5 c =
-    let q = c .before .before .pre .ready .sizes in let h = end-cells (c .before .before .pre .ready) in omega arith
+    record { fits = end-placed (c .before .before .pre .ready .sizes) .cell }
 
 loop-holds : tie.Need-loop-holds Inv-loop μ-loop
 loop-holds c =
-    walking-start (c .before .before .pre) _ (omega arith)
+    walking-start (c .before .before .pre) _ (place-sum _ _ _ _)
 
 sub-i : tie.Need-sub-i Inv-loop μ-loop
 sub-i c =
-    omega arith
+    c .loop-test .taken
 
 shared-slice-read-place-of : tie.Need-shared-slice-read-place-of Inv-loop μ-loop
 shared-slice-read-place-of c =
-    omega (arith, c .before .before .loop .inv .i-le)
+    last-in (c .before .before .loop .inv) (c .before .loop-test .taken)
 
 place-of-requires : tie.Need-place-of-requires Inv-loop μ-loop
 place-of-requires c κs =
-    search needs
+    tt
 
 part-sum-requires : tie.Need-part-sum-requires Inv-loop μ-loop
 part-sum-requires c κs =
-    let t = stepped (c .before .before .before .loop .inv) _ (c .before .before .loop-test .taken) (c .place-of .ensures) in (omega arith, t .reads)
+    let t = stepped (c .before .before .before .loop .inv) _ (c .before .before .loop-test .taken) (c .place-of .ensures) in (t .below, t .reads)
 
 add-acc : tie.Need-add-acc Inv-loop μ-loop
 add-acc c =
-    let t = stepped (c .before .before .before .before .loop .inv) _ (c .before .before .before .loop-test .taken) (c .before .place-of .ensures) in let h = t .fits _ (c .part-sum .ensures) in omega arith
+    record { fits = stepped (c .before .before .before .before .loop .inv) _ (c .before .before .before .loop-test .taken) (c .before .place-of .ensures) .fits _ (c .part-sum .ensures) }
 
 mul-x : tie.Need-mul-x Inv-loop μ-loop
 mul-x c =
-    let t = stepped (c .before .before .before .before .loop .inv) _ (c .before .before .before .loop-test .taken) (c .before .place-of .ensures) in omega arith
+    record { fits = stepped (c .before .before .before .before .loop .inv) _ (c .before .before .before .loop-test .taken) (c .before .place-of .ensures) .byte }
 
 element-copy-out-x : tie.Need-element-copy-out-x Inv-loop μ-loop
 element-copy-out-x c =
-    let t = stepped (c .before .before .before .before .loop .inv) _ (c .before .before .before .loop-test .taken) (c .before .place-of .ensures) in omega arith
+    stepped (c .before .before .before .before .loop .inv) _ (c .before .before .before .loop-test .taken) (c .before .place-of .ensures) .eight
 
 sub-x : tie.Need-sub-x Inv-loop μ-loop
 sub-x c =
-    let t = stepped (c .before .before .before .before .before .loop .inv) _ (c .before .before .before .before .loop-test .taken) (c .before .before .place-of .ensures) in omega arith
+    stepped (c .before .before .before .before .before .loop .inv) _ (c .before .before .before .before .loop-test .taken) (c .before .before .place-of .ensures) .right
 
 mul-y : tie.Need-mul-y Inv-loop μ-loop
 mul-y c =
-    let t = stepped (c .before .before .before .before .before .loop .inv) _ (c .before .before .before .before .loop-test .taken) (c .before .before .place-of .ensures) in omega arith
+    record { fits = stepped (c .before .before .before .before .before .loop .inv) _ (c .before .before .before .before .loop-test .taken) (c .before .before .place-of .ensures) .byte }
 
 element-copy-out-y : tie.Need-element-copy-out-y Inv-loop μ-loop
 element-copy-out-y c =
-    let t = stepped (c .before .before .before .before .before .loop .inv) _ (c .before .before .before .before .loop-test .taken) (c .before .before .place-of .ensures) in omega arith
+    stepped (c .before .before .before .before .before .loop .inv) _ (c .before .before .before .before .loop-test .taken) (c .before .before .place-of .ensures) .eight
 
 sub-y : tie.Need-sub-y Inv-loop μ-loop
 sub-y c =
-    let t = stepped (c .before .before .before .before .before .before .loop .inv) _ (c .before .before .before .before .before .loop-test .taken) (c .before .before .before .place-of .ensures) in omega arith
+    stepped (c .before .before .before .before .before .before .loop .inv) _ (c .before .before .before .before .before .loop-test .taken) (c .before .before .before .place-of .ensures) .up
 
 mul-p-2 : tie.Need-mul-p-2 Inv-loop μ-loop
 mul-p-2 c =
-    let t = stepped (c .before .before .before .before .before .before .loop .inv) _ (c .before .before .before .before .before .loop-test .taken) (c .before .before .before .place-of .ensures) in omega arith
+    record { fits = stepped (c .before .before .before .before .before .before .loop .inv) _ (c .before .before .before .before .before .loop-test .taken) (c .before .before .before .place-of .ensures) .byte }
 
 element-copy-out-p : tie.Need-element-copy-out-p Inv-loop μ-loop
 element-copy-out-p c =
-    let t = stepped (c .before .before .before .before .before .before .loop .inv) _ (c .before .before .before .before .before .loop-test .taken) (c .before .before .before .place-of .ensures) in omega arith
+    stepped (c .before .before .before .before .before .before .loop .inv) _ (c .before .before .before .before .before .loop-test .taken) (c .before .before .before .place-of .ensures) .eight
 
 sub-p : tie.Need-sub-p Inv-loop μ-loop
 sub-p c =
-    let t = stepped (c .before .before .before .before .before .before .before .loop .inv) _ (c .before .before .before .before .before .before .loop-test .taken) (c .before .before .before .before .place-of .ensures) in omega arith
+    stepped (c .before .before .before .before .before .before .before .loop .inv) _ (c .before .before .before .before .before .before .loop-test .taken) (c .before .before .before .before .place-of .ensures) .far
 
 loop-less : tie.Need-loop-less Inv-loop μ-loop
 loop-less c =
-    omega arith
+    stepped (c .before .before .before .before .before .before .before .loop .inv) _ (c .before .before .before .before .before .before .loop-test .taken) (c .before .before .before .before .place-of .ensures) .fewer
 
 loop-again : tie.Need-loop-again Inv-loop μ-loop
 loop-again c =

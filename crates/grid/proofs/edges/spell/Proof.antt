@@ -1,8 +1,6 @@
 use mathlib.Core.Path.{_≡_, refl}
-use native.Mathlib.Omega.{arith}
-use borrow.Author.Needs.{needs}
 use lib.ListN.{length, length-set}
-use Rattle.grid.proofs.Phases.{end-cells}
+use Rattle.grid.proofs.Phases.{place-sum, end-placed}
 use Rattle.grid.proofs.Building.{Writing, writing-start, reads-of, left-of, written, writing-end}
 use Rattle.grid.proofs.edges.spell.Statement.{statement}
 use Rattle.grid.proofs.edges.spell.Tie as tie
@@ -16,31 +14,31 @@ abbrev μ-loop : tie.MeasureT-loop
 
 add-p : tie.Need-add-p Inv-loop μ-loop
 add-p c =
-    let q = c .before .before .pre .0 .ready .sizes in let h = end-cells (c .before .before .pre .0 .ready) in omega arith
+    record { fits = end-placed (c .before .before .pre .0 .ready .sizes) .next }
 
 add-p-2 : tie.Need-add-p-2 Inv-loop μ-loop
 add-p-2 c =
-    let q = c .before .before .pre .0 .ready .sizes in let h = end-cells (c .before .before .pre .0 .ready) in omega arith
+    record { fits = end-placed (c .before .before .pre .0 .ready .sizes) .tall }
 
 add-p-3 : tie.Need-add-p-3 Inv-loop μ-loop
 add-p-3 c =
-    let q = c .before .before .pre .0 .ready .sizes in let h = end-cells (c .before .before .pre .0 .ready) in omega arith
+    record { fits = end-placed (c .before .before .pre .0 .ready .sizes) .stride }
 
 mul-p : tie.Need-mul-p Inv-loop μ-loop
 mul-p c =
-    let q = c .before .before .pre .0 .ready .sizes in let h = end-cells (c .before .before .pre .0 .ready) in omega arith
+    record { fits = end-placed (c .before .before .pre .0 .ready .sizes) .column }
 
 add-p-4 : tie.Need-add-p-4 Inv-loop μ-loop
 add-p-4 c =
-    let q = c .before .before .pre .0 .ready .sizes in let h = end-cells (c .before .before .pre .0 .ready) in omega arith
+    record { fits = end-placed (c .before .before .pre .0 .ready .sizes) .base }
 
 add-p-5 : tie.Need-add-p-5 Inv-loop μ-loop
 add-p-5 c =
-    let q = c .before .before .pre .0 .ready .sizes in let h = end-cells (c .before .before .pre .0 .ready) in omega arith
+    record { fits = end-placed (c .before .before .pre .0 .ready .sizes) .cell }
 
 loop-holds : tie.Need-loop-holds Inv-loop μ-loop
 loop-holds c =
-    (refl, writing-start (c .before .before .pre .0) (c .before .before .pre .1) _ (omega arith))
+    (refl, writing-start (c .before .before .pre .0) (c .before .before .pre .1) _ (place-sum _ _ _ _))
 
 seek-requires : tie.Need-seek-requires Inv-loop μ-loop
 seek-requires c κs =
@@ -48,7 +46,7 @@ seek-requires c κs =
 
 sub-s : tie.Need-sub-s Inv-loop μ-loop
 sub-s c =
-    omega (arith, c .before .before .loop .inv .1 .x-le, c .before .loop-test .taken)
+    written (c .before .before .loop .inv .1) (c .before .loop-test .taken) _ _ (c .seek .ensures) .least
 
 glyph-of-requires : tie.Need-glyph-of-requires Inv-loop μ-loop
 glyph-of-requires c κs =
@@ -56,47 +54,47 @@ glyph-of-requires c κs =
 
 slice-write-buf : tie.Need-slice-write-buf Inv-loop μ-loop
 slice-write-buf c =
-    omega (arith, c .before .before .before .loop .inv .1 .x-le, c .before .before .before .loop .inv .1 .s-le, c .before .before .before .loop .inv .1 .room, c .before .before .loop-test .taken)
+    written (c .before .before .before .loop .inv .1) (c .before .before .loop-test .taken) _ _ (c .before .seek .ensures) .inside
 
 mul-x : tie.Need-mul-x Inv-loop μ-loop
 mul-x c =
-    let t = written (c .before .before .before .loop .inv .1) (c .before .before .loop-test .taken) _ _ (c .before .seek .ensures) in omega (arith, t .below)
+    record { fits = written (c .before .before .before .loop .inv .1) (c .before .before .loop-test .taken) _ _ (c .before .seek .ensures) .byte }
 
 element-copy-out-x : tie.Need-element-copy-out-x Inv-loop μ-loop
 element-copy-out-x c =
-    let t = written (c .before .before .before .loop .inv .1) (c .before .before .loop-test .taken) _ _ (c .before .seek .ensures) in omega (arith, t .below)
+    written (c .before .before .before .loop .inv .1) (c .before .before .loop-test .taken) _ _ (c .before .seek .ensures) .below
 
 sub-x : tie.Need-sub-x Inv-loop μ-loop
 sub-x c =
-    let t = written (c .before .before .before .before .loop .inv .1) (c .before .before .before .loop-test .taken) _ _ (c .before .before .seek .ensures) in omega (arith, t .right)
+    written (c .before .before .before .before .loop .inv .1) (c .before .before .before .loop-test .taken) _ _ (c .before .before .seek .ensures) .right
 
 mul-y : tie.Need-mul-y Inv-loop μ-loop
 mul-y c =
-    let t = written (c .before .before .before .before .loop .inv .1) (c .before .before .before .loop-test .taken) _ _ (c .before .before .seek .ensures) in omega (arith, t .below)
+    record { fits = written (c .before .before .before .before .loop .inv .1) (c .before .before .before .loop-test .taken) _ _ (c .before .before .seek .ensures) .byte }
 
 element-copy-out-y : tie.Need-element-copy-out-y Inv-loop μ-loop
 element-copy-out-y c =
-    let t = written (c .before .before .before .before .loop .inv .1) (c .before .before .before .loop-test .taken) _ _ (c .before .before .seek .ensures) in omega (arith, t .below)
+    written (c .before .before .before .before .loop .inv .1) (c .before .before .before .loop-test .taken) _ _ (c .before .before .seek .ensures) .below
 
 sub-y : tie.Need-sub-y Inv-loop μ-loop
 sub-y c =
-    let t = written (c .before .before .before .before .before .loop .inv .1) (c .before .before .before .before .loop-test .taken) _ _ (c .before .before .before .seek .ensures) in omega (arith, t .up)
+    written (c .before .before .before .before .before .loop .inv .1) (c .before .before .before .before .loop-test .taken) _ _ (c .before .before .before .seek .ensures) .up
 
 mul-p-2 : tie.Need-mul-p-2 Inv-loop μ-loop
 mul-p-2 c =
-    let t = written (c .before .before .before .before .before .loop .inv .1) (c .before .before .before .before .loop-test .taken) _ _ (c .before .before .before .seek .ensures) in omega (arith, t .below)
+    record { fits = written (c .before .before .before .before .before .loop .inv .1) (c .before .before .before .before .loop-test .taken) _ _ (c .before .before .before .seek .ensures) .byte }
 
 element-copy-out-p : tie.Need-element-copy-out-p Inv-loop μ-loop
 element-copy-out-p c =
-    let t = written (c .before .before .before .before .before .loop .inv .1) (c .before .before .before .before .loop-test .taken) _ _ (c .before .before .before .seek .ensures) in omega (arith, t .below)
+    written (c .before .before .before .before .before .loop .inv .1) (c .before .before .before .before .loop-test .taken) _ _ (c .before .before .before .seek .ensures) .below
 
 sub-p : tie.Need-sub-p Inv-loop μ-loop
 sub-p c =
-    let t = written (c .before .before .before .before .before .before .loop .inv .1) (c .before .before .before .before .before .loop-test .taken) _ _ (c .before .before .before .before .seek .ensures) in omega (arith, t .far)
+    written (c .before .before .before .before .before .before .loop .inv .1) (c .before .before .before .before .before .loop-test .taken) _ _ (c .before .before .before .before .seek .ensures) .far
 
 loop-less : tie.Need-loop-less Inv-loop μ-loop
 loop-less c =
-    let t = written (c .before .before .before .before .before .before .loop .inv .1) (c .before .before .before .before .before .loop-test .taken) _ _ (c .before .before .before .before .seek .ensures) in omega (arith, t .right, t .ahead)
+    written (c .before .before .before .before .before .before .loop .inv .1) (c .before .before .before .before .before .loop-test .taken) _ _ (c .before .before .before .before .seek .ensures) .ahead
 
 loop-again : tie.Need-loop-again Inv-loop μ-loop
 loop-again c =
@@ -104,7 +102,7 @@ loop-again c =
 
 same-length : tie.Need-same-length Inv-loop μ-loop
 same-length c =
-    search needs
+    c .before .loop .inv .0
 
 returns : tie.Need-returns Inv-loop μ-loop
 returns c =

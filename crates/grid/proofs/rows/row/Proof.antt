@@ -3,7 +3,6 @@ use mathlib.Core.Path.{_≡_, refl, sym, subst}
 use lib.Dec.{T}
 use native.Mathlib.Omega.{arith}
 use lib.ListN.{length, length-set}
-use borrow.Author.Needs.{needs}
 use Rattle.grid.proofs.Along.{Along, row-at, row-small, row-far, first-fits, along-start, along-in, along-small, along-far, along-done, next-in, next-small, along-over, along-next}
 use Rattle.grid.proofs.rows.row.Statement.{statement}
 use Rattle.grid.proofs.rows.row.Tie as tie

@@ -1,6 +1,6 @@
 use native.Mathlib.Omega.{arith}
 use mathlib.Core.Path.{refl}
-use Rattle.grid.proofs.Phases.{ready-len, got-filled}
+use Rattle.grid.proofs.Phases.{ready-len, place-sum, end-placed, got-filled}
 use borrow.Author.Needs.{needs}
 use Rattle.grid.proofs.table.fill_columns.Statement.{statement}
 use Rattle.grid.proofs.table.fill_columns.Tie as tie
@@ -18,25 +18,25 @@ returns : tie.Need-returns
 returns c = search needs
 
 add-end : tie.Need-add-end
-add-end c = search needs
+add-end c = record { fits = end-placed (c .before .before .before .before .before .before .pre .ready .sizes) .next }
 
 add-end-2 : tie.Need-add-end-2
-add-end-2 c = search needs
+add-end-2 c = record { fits = end-placed (c .before .before .before .before .before .before .pre .ready .sizes) .tall }
 
 add-end-3 : tie.Need-add-end-3
-add-end-3 c = search needs
+add-end-3 c = record { fits = end-placed (c .before .before .before .before .before .before .pre .ready .sizes) .stride }
 
 mul-end : tie.Need-mul-end
-mul-end c = search needs
+mul-end c = record { fits = end-placed (c .before .before .before .before .before .before .pre .ready .sizes) .column }
 
 add-end-4 : tie.Need-add-end-4
-add-end-4 c = search needs
+add-end-4 c = record { fits = end-placed (c .before .before .before .before .before .before .pre .ready .sizes) .base }
 
 add-end-5 : tie.Need-add-end-5
-add-end-5 c = search needs
+add-end-5 c = record { fits = end-placed (c .before .before .before .before .before .before .pre .ready .sizes) .cell }
 
 mul-v : tie.Need-mul-v
-mul-v c = search needs
+mul-v c = record { fits = end-placed (c .before .before .before .before .before .before .pre .ready .sizes) .byte }
 
 slice-read-v : tie.Need-slice-read-v
 slice-read-v c = search needs
@@ -45,7 +45,7 @@ same-length-2 : tie.Need-same-length-2
 same-length-2 c = search needs
 
 returns-2 : tie.Need-returns-2
-returns-2 c = got-filled (c .before .before .before .before .fast .ensures) (omega arith) (λ j. omega (arith, c .before .before .slice-known2 .given j)) refl (omega arith)
+returns-2 c = got-filled (c .before .before .before .before .fast .ensures) (omega arith) (λ j. omega (arith, c .before .before .slice-known2 .given j)) refl (place-sum _ _ _ _)
 
 pub fill-columns-spec : {M : Type 1} → statement M
 fill-columns-spec =

@@ -1,10 +1,10 @@
 use mathlib.Core.Path.{_≡_, refl}
 use Prim.Native.Nat.{_≤_, _-_}
 use native.Mathlib.Omega.{arith}
-use borrow.Author.Needs.{needs}
 use lib.ListN.{length}
 use Rattle.grid.specs.Filling.{Slow, Part}
-use Rattle.grid.proofs.Phases.{slow-fits, none-yet, inside-at, parts-of, part-more, slow-done}
+use Rattle.grid.proofs.Sums.{more-le, fewer-left, all-of}
+use Rattle.grid.proofs.Phases.{place-sum, slow-placed, none-yet, put-in, parts-of, part-more, slow-done}
 use Rattle.grid.proofs.table.slow.Statement.{statement}
 use Rattle.grid.proofs.table.slow.Tie as tie
 
@@ -16,52 +16,52 @@ abbrev μ-loop : tie.MeasureT-loop
 μ-loop val₀ ov₀ sa sc off few k f hi m ex ey x from to base y₀ val ov y = to - y
 
 add-base : tie.Need-add-base Inv-loop μ-loop
-add-base c = let h = slow-fits (c .before .before .pre) in let p = c .before .before .pre .turn .ready .sizes in let q = c .before .before .pre in omega arith
+add-base c = record { fits = slow-placed (c .before .before .pre) _ (c .before .before .pre .lt) .next }
 
 add-base-2 : tie.Need-add-base-2 Inv-loop μ-loop
-add-base-2 c = let h = slow-fits (c .before .before .pre) in let p = c .before .before .pre .turn .ready .sizes in let q = c .before .before .pre in omega arith
+add-base-2 c = record { fits = slow-placed (c .before .before .pre) _ (c .before .before .pre .lt) .tall }
 
 add-base-3 : tie.Need-add-base-3 Inv-loop μ-loop
-add-base-3 c = let h = slow-fits (c .before .before .pre) in let p = c .before .before .pre .turn .ready .sizes in let q = c .before .before .pre in omega arith
+add-base-3 c = record { fits = slow-placed (c .before .before .pre) _ (c .before .before .pre .lt) .stride }
 
 mul-base : tie.Need-mul-base Inv-loop μ-loop
-mul-base c = let h = slow-fits (c .before .before .pre) in let p = c .before .before .pre .turn .ready .sizes in let q = c .before .before .pre in omega arith
+mul-base c = record { fits = slow-placed (c .before .before .pre) _ (c .before .before .pre .lt) .column }
 
 add-base-4 : tie.Need-add-base-4 Inv-loop μ-loop
-add-base-4 c = let h = slow-fits (c .before .before .pre) in let p = c .before .before .pre .turn .ready .sizes in let q = c .before .before .pre in omega arith
+add-base-4 c = record { fits = slow-placed (c .before .before .pre) _ (c .before .before .pre .lt) .base }
 
 loop-holds : tie.Need-loop-holds Inv-loop μ-loop
 loop-holds c = (omega arith, omega (arith, c .before .before .pre .lt), refl, refl, c .before .before .pre, none-yet (c .before .before .pre))
 
 add-total : tie.Need-add-total Inv-loop μ-loop
-add-total c = let h = slow-fits (c .before .before .before .loop .inv .4) in let p = c .before .before .before .loop .inv .4 .turn .ready .sizes in let q = c .before .before .before .loop .inv .4 .up in omega arith
+add-total c = record { fits = slow-placed (c .before .before .before .loop .inv .4) _ (c .before .before .loop-test .taken) .cell }
 
 total-requires : tie.Need-total-requires Inv-loop μ-loop
-total-requires c κs = parts-of (c .before .before .before .loop .inv .4) (c .before .before .before .loop .inv .5) (c .before .before .before .loop .inv .0) (c .before .before .loop-test .taken) _ (omega arith) (c .before .before .before .loop .inv .2) (c .before .before .before .loop .inv .3)
+total-requires c κs = parts-of (c .before .before .before .loop .inv .4) (c .before .before .before .loop .inv .5) (c .before .before .before .loop .inv .0) (c .before .before .loop-test .taken) _ (place-sum _ _ _ _) (c .before .before .before .loop .inv .2) (c .before .before .before .loop .inv .3)
 
 add-put : tie.Need-add-put Inv-loop μ-loop
-add-put c = let h = slow-fits (c .before .before .before .before .before .before .loop .inv .4) in let p = c .before .before .before .before .before .before .loop .inv .4 .turn .ready .sizes in let q = c .before .before .before .before .before .before .loop .inv .4 .up in omega arith
+add-put c = record { fits = slow-placed (c .before .before .before .before .before .before .loop .inv .4) _ (c .before .before .before .before .before .loop-test .taken) .cell }
 
 put-requires : tie.Need-put-requires Inv-loop μ-loop
-put-requires c κs = let h = inside-at (c .before .before .before .before .before .before .loop .inv .4) (c .before .before .before .before .before .before .loop .inv .5) (c .before .before .before .before .before .before .loop .inv .0) (c .before .before .before .before .before .loop-test .taken) in let p = c .before .before .before .before .before .before .loop .inv .4 .turn .ready .room in let q = c .before .before .before .before .before .before .loop .inv .4 .turn .room in let u = c .before .before .before .before .before .before .loop .inv .2 in let v = c .before .before .before .before .before .before .loop .inv .3 in (omega arith, omega arith)
+put-requires c κs = put-in (c .before .before .before .before .before .before .loop .inv .4) (c .before .before .before .before .before .before .loop .inv .5) (c .before .before .before .before .before .before .loop .inv .0) (c .before .before .before .before .before .loop-test .taken) (c .before .before .before .before .before .before .loop .inv .2) (c .before .before .before .before .before .before .loop .inv .3)
 
 add-y : tie.Need-add-y Inv-loop μ-loop
-add-y c = let p = c .before .before .before .before .before .before .before .before .before .before .before .loop .inv .4 .turn .ready .sizes in let q = c .before .before .before .before .before .before .before .before .before .before .before .loop .inv .4 .up in omega arith
+add-y c = record { fits = slow-placed (c .before .before .before .before .before .before .before .before .before .before .before .loop .inv .4) _ (c .before .before .before .before .before .before .before .before .before .before .loop-test .taken) .above }
 
 loop-less : tie.Need-loop-less Inv-loop μ-loop
-loop-less c = omega arith
+loop-less c = fewer-left _ _ (c .before .before .before .before .before .before .before .before .before .before .loop-test .taken)
 
 loop-again : tie.Need-loop-again Inv-loop μ-loop
-loop-again c = (omega arith, omega arith, omega arith, omega arith, c .before .before .before .before .before .before .before .before .before .before .before .loop .inv .4, part-more (c .before .before .before .before .before .before .before .before .before .before .before .loop .inv .4) (c .before .before .before .before .before .before .before .before .before .before .before .loop .inv .5) (c .before .before .before .before .before .before .before .before .before .before .before .loop .inv .0) (c .before .before .before .before .before .before .before .before .before .before .loop-test .taken) _ _ _ _ (omega arith) (c .before .before .before .before .put .ensures) (c .before .before .before .before .before .before .before .total .ensures))
+loop-again c = (omega arith, more-le _ _ (c .before .before .before .before .before .before .before .before .before .before .loop-test .taken), omega arith, omega arith, c .before .before .before .before .before .before .before .before .before .before .before .loop .inv .4, part-more (c .before .before .before .before .before .before .before .before .before .before .before .loop .inv .4) (c .before .before .before .before .before .before .before .before .before .before .before .loop .inv .5) (c .before .before .before .before .before .before .before .before .before .before .before .loop .inv .0) (c .before .before .before .before .before .before .before .before .before .before .loop-test .taken) _ _ _ _ (place-sum _ _ _ _) (c .before .before .before .before .put .ensures) (c .before .before .before .before .before .before .before .total .ensures))
 
 same-length : tie.Need-same-length Inv-loop μ-loop
-same-length c = search needs
+same-length c = c .before .loop .inv .2
 
 same-length-2 : tie.Need-same-length-2 Inv-loop μ-loop
-same-length-2 c = search needs
+same-length-2 c = c .before .loop .inv .3
 
 returns : tie.Need-returns Inv-loop μ-loop
-returns c = slow-done (c .before .loop .inv .4) (c .before .loop .inv .5) (omega arith)
+returns c = slow-done (c .before .loop .inv .4) (c .before .loop .inv .5) (all-of _ _ (c .before .loop .inv .1) (c .loop-test .left))
 
 pub slow-spec : {M : Type 1} → statement M
 slow-spec =
