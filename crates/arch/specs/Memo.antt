@@ -1,4 +1,5 @@
--- The memo of the Dyck counts.
+-- The memo of the Dyck counts, lent along by a count that calls itself on both smaller parts: "C(0) = 1; C(n) = sum over i from 0 to n-1
+-- of C(i)·C(n-1-i)."
 --
 --   Good l      each entry is 0, which says that it is not worked out yet, or the count for its place
 --   Kept l m    m is as long as l, and what is worked out in l is the same in m

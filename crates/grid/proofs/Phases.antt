@@ -52,7 +52,7 @@ pub record Placed (m ey x y : ℕ) : Type 0 where
 placed-from : (m ey x y : ℕ) → m ≤ 1000 → ey ≤ 1000 → x ≤ 97 → y ≤ 1000 → (x + 1) * (m + ey + 1) ≤ 98 * 2001 → Placed m ey x y
 placed-from m ey x y lm le lx ly h = record { next = omega arith; above = omega arith; tall = omega arith; stride = omega arith; column = omega arith; base = omega arith; cell = omega arith; byte = omega arith }
 
-pub placed : {f hi m ex ey : ℕ} → Sizes f hi m ex ey → (x y : ℕ) → x ≤ ex → y ≤ ey → Placed m ey x y
+placed : {f hi m ex ey : ℕ} → Sizes f hi m ex ey → (x y : ℕ) → x ≤ ex → y ≤ ey → Placed m ey x y
 placed {f} {hi} {m} {ex} {ey} s x y lx ly =
     placed-from m ey x y (s .m-le) (s .ey-le) (omega (arith, s .ex-le)) (omega (arith, s .ey-le))
     (mul-bound (x + 1) (m + ey + 1) 98 2001 (omega (arith, s .ex-le)) (omega (arith, s .m-le, s .ey-le)))
@@ -118,7 +118,7 @@ module _ {few : Bool} {k f : ℕ} {sa sc off : List ℕ} {hi m ex ey : ℕ} {val
   none-yet = record { before = λ j l. refl; after = λ j l. refl; here = λ t h l. absurd (omega arith) }
 
   module _ {val ov : List ℕ} {y : ℕ} (p : Part k f sa sc m ey x from val₀ ov₀ val ov y) (lf : from ≤ y) (lt : y < to) where
-    pub inside-at : place m ey x y < (ex + 2) * strideOf m ey
+    inside-at : place m ey x y < (ex + 2) * strideOf m ey
     inside-at = omega (arith, s .up .under, one-more (strideOf m ey) (x + 1), grow (strideOf m ey) (x + 1 + 1) (ex + 2) (omega (arith, s .turn .end)))
 
     pub put-in : length val ≡ length val₀ → length ov ≡ length ov₀ → ((x + 1) * (m + ey + 1) + m + y < length val) × ((x + 1) * (m + ey + 1) + m + y < length ov)

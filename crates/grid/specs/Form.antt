@@ -24,7 +24,7 @@ W k f sa sc x y = paths (stepsIn k f sa sc) (spot x y)
 unfoldable pub via : ℕ → ℕ → List ℕ → List ℕ → ℕ → ℕ → ℕ → ℕ
 via k f sa sc x y i = pick (reach (stepsIn k f sa sc) (spot x y) i) (paths (stepsIn k f sa sc) (off (stepsIn k f sa sc) (spot x y) i)) 0
 
--- families 6 and 7 have top 12, ex to 32 and ey to 192; families 1 and 3 have top 1, ex to 97 and ey to 64
+-- families 6 and 7 have top 12, ex to 32 and ey to 192; families 1 and 3 have top 1, ex to 97 and ey to 33
 pub record Form (k f : ℕ) (sa sc : List ℕ) (top ex ey : ℕ) : Type 0 where
   pub eight : length sa ≡ 8
   pub eight-too : length sc ≡ 8

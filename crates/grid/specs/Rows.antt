@@ -1,5 +1,5 @@
--- A table filled row by row, where the steps are those of families 1 and 3: along a row each cell is the one before it and what the row
--- below brings, so that a sum is kept in hand.
+-- A table filled row by row, where the steps are those of families 1 and 3: "L(n,m) = L(n,m-1) + L(n-1,m)" and "D(n,m) = D(n,m-1) +
+-- D(n-1,m) + D(n-1,m-1)", so along a row each cell is the one before it and what the row below brings, and a sum is kept in hand.
 --
 --   Rises a b       one of the two is 1, the other 0
 --   Corner three    the steps are (1,1) and (1,0), in either order, and (2,1) where three is true

@@ -3,7 +3,6 @@
 --   partSays        the reply that each case of Parted stands for: where edge i begins and ends
 --   repeatSays      the reply that each case of Repeats stands for: the later and the earlier edge, or none
 use mathlib.Core.Option.{Option, none, some}
-use Prim.Native.Nat.{ℕ}
 use Rattle.rules.specs.Questions.{Part, Twice}
 use Rattle.job.specs.Replies.{Reply}
 use Rattle.job.specs.Replies.Reply.{value, refusal}

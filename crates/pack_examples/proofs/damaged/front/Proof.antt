@@ -1,7 +1,5 @@
 -- `damaged::front` reads bytes of the pack alone. Assumes nothing.
 use Prim.Native.Nat.{_≤_, _-_}
-use native.Mathlib.Omega.{arith}
-use lib.ListN.{length}
 use borrow.Author.Needs.{needs}
 use Rattle.pack_examples.proofs.damaged.front.Statement.{statement}
 use Rattle.pack_examples.proofs.damaged.front.Tie as tie
