@@ -40,18 +40,18 @@ use Rattle.rules.proofs.Sheared.Back.{to, gone}
 pub record Cornered (ss : List Step) (G : Steps) : Type 0 where
   pub many : length ss ≡ G .k
   pub onward : Onward G
-  pub free : G .f ≡ 0
+  pub free : (x y : ℕ) → G .stays x y ≡ true
   pub right : (i : ℕ) → i < G .k → at ss i .a + G .c i ≡ G .a i
   pub up : (i : ℕ) → i < G .k → at ss i .b ≡ pos (G .c i)
 
 module _ (ss : List Step) (G : Steps) (H : Cornered ss G) where
-  free-fence : (q : Spot) → G .f * q .x ≤ q .y
-  free-fence q = rw (H .free) (omega arith)
+  free : (q : Spot) → T (inside G q)
+  free q = holds (H .free (q .x) (q .y))
 
   -- one step goes up by no more than it goes on
   none-from : (p : Spot) → 0 < p .x → ((i : ℕ) → i < G .k → T (reach G p i) → paths G (off G p i) ≡ 0) → paths G p ≡ 0
   none-from p l h =
-      paths-step G (H .onward) p l (free-fence p)
+      paths-step G (H .onward) p l (free p)
       ∙ sum-none (λ i. pick (reach G p i) (paths G (off G p i)) 0) (G .k) (λ i k. go i k (reach G p i) refl)
     where
       go : (i : ℕ) → i < G .k → (b : Bool) → reach G p i ≡ b → pick b (paths G (off G p i)) 0 ≡ 0
@@ -66,7 +66,7 @@ module _ (ss : List Step) (G : Steps) (H : Cornered ss G) where
       upto (suc b) zero y k l = paths-start G (H .onward) y ∙ ap bit (is-false (eqb y 0) (λ t. omega (arith, eqb→eq y 0 t)))
       upto (suc b) (suc x) y k l = none-from (record { x = suc x; y = y }) (omega arith) (λ i h t.
           let r = reached G (record { x = suc x; y = y }) i t in
-          upto b (suc x - G .a i) (y - G .c i) (omega (arith, H .onward i h)) (omega (arith, H .onward i h, H .right i h)))
+          upto b (suc x - G .a i) (y - G .c i) (omega (arith, H .onward .ahead i h)) (omega (arith, H .onward .ahead i h, H .right i h)))
 
   -- ---- what each last step brings
 
@@ -134,7 +134,7 @@ corner-shear J G K H own stands free counts = record {
     across = omega (arith, a .across, H .right i l);
     up = ap₂ _+ℤ_ (a .up) (H .up i l) ∙ pos-+ℤ-pos (q .y) (G .c i);
   };
-  keeps = λ p q a. free p ∙ sym (is-true (inside G q) (le→leb (G .f * q .x) (q .y) (free-fence (stepsOf J) G H q)));
+  keeps = λ p q a. free p ∙ sym (H .free (q .x) (q .y));
   undo = undo (stepsOf J) G H K;
   agrees = λ p q a. ap (raised K (p .x)) (a .up) ∙ counts (p .x) (q .y) ∙ ap (paths G) (spot-eq {q = q} (a .across) refl);
 }
@@ -146,8 +146,8 @@ corner-shear J G K H own stands free counts = record {
 pub north-east-cornered : (n m : ℕ) → Cornered (stepsOf (north-east n m)) (gridOf (north-east n m))
 north-east-cornered n m = record {
   many = refl;
-  onward = two (λ i. 0 < gridOf (north-east n m) .a i) (omega arith) (omega arith);
-  free = refl;
+  onward = record { ahead = two (λ i. 0 < gridOf (north-east n m) .a i) (omega arith) (omega arith); begins = tt };
+  free = λ x y. refl;
   right = two (λ i. at (stepsOf (north-east n m)) i .a + gridOf (north-east n m) .c i ≡ gridOf (north-east n m) .a i) refl refl;
   up = two (λ i. at (stepsOf (north-east n m)) i .b ≡ pos (gridOf (north-east n m) .c i)) refl refl;
 }
@@ -167,7 +167,7 @@ L-agrees zero (suc m) =
     let p : Spot = record { x = 0 + suc m; y = suc m } in
     omega (
       arith,
-      paths-step G (H .onward) p (omega arith) (omega arith),
+      paths-step G (H .onward) p (omega arith) tt,
       L-agrees zero m,
       term ss G H p (record { x = 0 + m; y = m }) 0 (omega arith) (omega arith),
       term-none ss G H p 1 (omega arith),
@@ -179,7 +179,7 @@ L-agrees (suc n) zero =
     let p : Spot = record { x = suc n + 0; y = 0 } in
     omega (
       arith,
-      paths-step G (H .onward) p (omega arith) (omega arith),
+      paths-step G (H .onward) p (omega arith) tt,
       L-agrees n zero,
       L-rim n,
       term-out ss G H p 0 (omega arith),
@@ -192,7 +192,7 @@ L-agrees (suc n) (suc m) =
     let p : Spot = record { x = suc n + suc m; y = suc m } in
     omega (
       arith,
-      paths-step G (H .onward) p (omega arith) (omega arith),
+      paths-step G (H .onward) p (omega arith) tt,
       L-agrees (suc n) m,
       L-agrees n (suc m),
       term ss G H p (record { x = suc n + m; y = m }) 0 (omega arith) (omega arith),
@@ -211,8 +211,8 @@ north-east-shear n m =
 pub delannoy-cornered : (n m : ℕ) → Cornered (stepsOf (delannoy n m)) (gridOf (delannoy n m))
 delannoy-cornered n m = record {
   many = refl;
-  onward = three (λ i. 0 < gridOf (delannoy n m) .a i) (omega arith) (omega arith) (omega arith);
-  free = refl;
+  onward = record { ahead = three (λ i. 0 < gridOf (delannoy n m) .a i) (omega arith) (omega arith) (omega arith); begins = tt };
+  free = λ x y. refl;
   right = three (λ i. at (stepsOf (delannoy n m)) i .a + gridOf (delannoy n m) .c i ≡ gridOf (delannoy n m) .a i) refl refl refl;
   up = three (λ i. at (stepsOf (delannoy n m)) i .b ≡ pos (gridOf (delannoy n m) .c i)) refl refl refl;
 }
@@ -232,7 +232,7 @@ D-agrees zero (suc m) =
     let p : Spot = record { x = 0 + suc m; y = suc m } in
     omega (
       arith,
-      paths-step G (H .onward) p (omega arith) (omega arith),
+      paths-step G (H .onward) p (omega arith) tt,
       D-agrees zero m,
       term ss G H p (record { x = 0 + m; y = m }) 0 (omega arith) (omega arith),
       term-none ss G H p 1 (omega arith),
@@ -245,7 +245,7 @@ D-agrees (suc n) zero =
     let p : Spot = record { x = suc n + 0; y = 0 } in
     omega (
       arith,
-      paths-step G (H .onward) p (omega arith) (omega arith),
+      paths-step G (H .onward) p (omega arith) tt,
       D-agrees n zero,
       D-rim n,
       term-out ss G H p 0 (omega arith),
@@ -259,7 +259,7 @@ D-agrees (suc n) (suc m) =
     let p : Spot = record { x = suc n + suc m; y = suc m } in
     omega (
       arith,
-      paths-step G (H .onward) p (omega arith) (omega arith),
+      paths-step G (H .onward) p (omega arith) tt,
       D-agrees (suc n) m,
       D-agrees n (suc m),
       D-agrees n m,

@@ -6,9 +6,10 @@
 --   Corner p q      the grid's spot q is (x + y, y) of the point p (families 1 and 3)
 --   Slope p q       the grid's spot q is (x, y + 3x) of the point p (families 6 and 7)
 use mathlib.Core.Path.{_≡_}
-use mathlib.Core.Bool.{Bool}
+use mathlib.Core.Bool.{Bool, true}
 use mathlib.Core.List.{List, [], _∷_}
 use Prim.Native.Nat.{ℕ, suc, _+_, _*_}
+use lib.Dec.{leb}
 use lib.IntN.{ℤ, pos, negsuc, _+ℤ_}
 use lib.ListN.{length, getD}
 use Rattle.howmany.specs.Choose.{pick}
@@ -26,14 +27,14 @@ abbrev pub lift : ℕ → ℤ → ℕ
 lift a b = height (b +ℤ pos (3 * a))
 
 abbrev pub cornerGrid : List ℕ → List ℕ → Steps
-cornerGrid right up = record { k = length right; a = λ i. getD right i 0; c = λ i. getD up i 0; f = 0 }
+cornerGrid right up = record { k = length right; a = λ i. getD right i 0; c = λ i. getD up i 0; stays = λ x y. true }
 
 abbrev pub slopeGrid : Bool → List Pair → Steps
 slopeGrid fenced pairs = record {
   k = length pairs;
   a = λ i. pairAt pairs i .a;
   c = λ i. lift (pairAt pairs i .a) (pairAt pairs i .b);
-  f = pick fenced 3 0;
+  stays = λ x y. leb (pick fenced 3 0 * x) y;
 }
 
 abbrev pub gridOf : Job → Steps
