@@ -30,6 +30,7 @@ use Rattle.grid.specs.Cells.{strideOf, place}
 use Rattle.grid.specs.Table.{Plan, Ends, Ready}
 use Rattle.grid.specs.Filling.{Got, Filled}
 use Rattle.grid.specs.Rows.{Rises, Corner, Cornered, Done, Rows, Rowing, Risen}
+use Rattle.grid.proofs.Walls.{wall-level}
 use Rattle.grid.proofs.Laws.{via-left, via-under, via-in, W-start, W-step, cap-ge}
 use Rattle.grid.proofs.Counts.{pos-of, W-high}
 use Rattle.grid.proofs.Columns.{grow, one-more}
@@ -79,7 +80,7 @@ module _ (k f : ℕ) (sa sc : List ℕ) where
     pub corner-next : (u y : ℕ) → W k f sa sc (suc u) y ≡ W k f sa sc u y + low u y + across three u y
     unfolding sum
     corner-next u y =
-        W-step k f sa sc (pos-of pl) (suc u) y (omega arith) (omega (arith, ap (λ (z : ℕ). z * suc u) (co .level)))
+        W-step k f sa sc (pos-of pl) (suc u) y (omega arith) (wall-level f (suc u) y (co .level))
         ∙ ap (sum (via k f sa sc (suc u) y)) (co .many) ∙ go three (co .third)
       where
         go : (b : Bool) → (b ≡ true → (getD sa 2 0 ≡ 2) × (getD sc 2 0 ≡ 1)) → sum (via k f sa sc (suc u) y) (pick b 3 2) ≡ W k f sa sc u y + low u y + across b u y
@@ -338,7 +339,7 @@ module _ {three few : Bool} {k f : ℕ} {sa sc off : List ℕ} {hi m ex ey y : �
   pub row-at : place m ey y y < length val
   row-at = omega (arith, place-in m ex ey y y (omega (arith, w .inside, w .wide)) (w .inside), w .ready .room)
 
-  pub row-small : place m ey y y < 7040
+  pub row-small : place m ey y y < 3712
   row-small = omega (arith, place-in m ex ey y y (omega (arith, w .inside, w .wide)) (w .inside), w .ready .sizes .cells)
 
   pub row-far : strideOf m ey < place m ey y y
@@ -385,7 +386,7 @@ module _ {three few : Bool} {k f : ℕ} {sa sc off : List ℕ} {hi m ex ey y : �
   pub along-in : p < length val
   along-in = omega (arith, a .at, place-in m ex ey (y + i) y column-in (a .inside), a .ready .room)
 
-  pub along-small : p < 7040
+  pub along-small : p < 3712
   along-small = omega (arith, a .at, place-in m ex ey (y + i) y column-in (a .inside), a .ready .sizes .cells)
 
   pub along-far : strideOf m ey < p
@@ -404,7 +405,7 @@ module _ {three few : Bool} {k f : ℕ} {sa sc off : List ℕ} {hi m ex ey y : �
     pub next-in : p + strideOf m ey < length val
     next-in = omega (arith, next-place, place-in m ex ey (y + (i + 1)) y (omega (arith, a .inside, a .wide)) (a .inside), a .ready .room)
 
-    pub next-small : p + strideOf m ey < 7040
+    pub next-small : p + strideOf m ey < 3712
     next-small = omega (arith, next-place, place-in m ex ey (y + (i + 1)) y (omega (arith, a .inside, a .wide)) (a .inside), a .ready .sizes .cells)
 
     module _ (b c : ℕ) (eb : b ≡ getD val (p - 1) 0) (ec : c ≡ pick three (getD val (p - strideOf m ey - 1) 0) 0) where

@@ -12,6 +12,7 @@ use Prim.Native.Nat.{ℕ, zero, suc, _+_, _-_, _*_, _^_, _≤_, _<_}
 use native.Mathlib.Omega.{arith}
 use native.Mathlib.Decide.{decLe}
 use native.Mathlib.Nat.{not-suc-le-zero}
+use lib.Dec.{T}
 use lib.ListN.{length, getD, drop, set, length-set, drop-of-length-le}
 use lib.Seq.{drop-cons, getD-set-same, drop-set-lt, append-snoc, lt-length-set}
 use borrow.Author.Tests.{ne-eqb}
@@ -22,12 +23,13 @@ use Rattle.backward.specs.Reader.{count, unrank}
 use Rattle.backward.specs.Grid.{Spot, grid, paths}
 use Rattle.backward.proofs.Backward.{unrank-start, unrank-step}
 use Rattle.backward.proofs.Grids.{grid-lawful}
-use Rattle.grid.specs.Form.{stepsIn, spot, W, via}
+use Rattle.grid.specs.Form.{wall, stepsIn, spot, W, via}
 use Rattle.letters.specs.Letters.{glyphOf}
 use Rattle.grid.specs.Cells.{place}
 use Rattle.grid.specs.Table.{Plan}
 use Rattle.grid.specs.Edges.{endOf, edgeOf, Stand, Reads, Sought, Spelling}
-use Rattle.grid.proofs.Laws.{sum-more, via-in, via-left, via-under, W-start, W-out, W-step}
+use Rattle.grid.proofs.Walls.{tested, wall-start}
+use Rattle.grid.proofs.Laws.{onward, sum-more, via-in, via-left, via-under, W-start, W-out, W-step}
 use Rattle.grid.proofs.Counts.{pos-of}
 use Rattle.grid.proofs.Reading.{back-is, end-in}
 use Rattle.grid.proofs.Numbers.{brought, reads-at, stand-back}
@@ -56,7 +58,7 @@ unfoldable pub unr : ℕ → ℕ → List ℕ → List ℕ → ℕ → ℕ → �
 unr k f sa sc x y r = unrank (grid (stepsIn k f sa sc)) (endOf k f sa sc x y) r
 
 module _ (k f : ℕ) (sa sc : List ℕ) (pos : (i : ℕ) → i < k → 1 ≤ getD sa i 0) where
-  count-in : (x y : ℕ) → f * x ≤ y → count (grid (stepsIn k f sa sc)) (some (spot x y)) ≡ W k f sa sc x y
+  count-in : (x y : ℕ) → T (wall f x y) → count (grid (stepsIn k f sa sc)) (some (spot x y)) ≡ W k f sa sc x y
   unfolding W paths
   count-in x y h = ap (count (grid (stepsIn k f sa sc))) (sym (end-in k f sa sc x y h))
 
@@ -67,8 +69,8 @@ module _ (k f : ℕ) (sa sc : List ℕ) (pos : (i : ℕ) → i < k → 1 ≤ get
   start-at : (r : ℕ) → r < W k f sa sc 0 0 → unr k f sa sc 0 0 r ≡ []
   unfolding unr
   start-at r h =
-      ap (λ (m : Option Spot). unrank (grid (stepsIn k f sa sc)) m r) (end-in k f sa sc 0 0 (omega arith))
-      ∙ unrank-start (grid (stepsIn k f sa sc)) (grid-lawful (stepsIn k f sa sc) pos) (spot 0 0) r tt (omega (arith, count-in 0 0 (omega arith)))
+      ap (λ (m : Option Spot). unrank (grid (stepsIn k f sa sc)) m r) (end-in k f sa sc 0 0 (wall-start f))
+      ∙ unrank-start (grid (stepsIn k f sa sc)) (grid-lawful (stepsIn k f sa sc) (onward k f sa sc pos)) (spot 0 0) r tt (omega (arith, count-in 0 0 (wall-start f)))
 
   pub unr-start : (x y r : ℕ) → x ≤ 0 → r < W k f sa sc x y → unr k f sa sc x y r ≡ []
   unr-start x y r l h =
@@ -77,14 +79,14 @@ module _ (k f : ℕ) (sa sc : List ℕ) (pos : (i : ℕ) → i < k → 1 ≤ get
       let n : y ≡ 0 = at-zero y r h′ in
       rw (z, n) (start-at r (rw n at h′))
 
-  pub unr-step : (x y r l rest : ℕ) → f * x ≤ y → Sought (via k f sa sc x y) k r l rest → getD sa l 0 ≤ x → getD sc l 0 ≤ y
+  pub unr-step : (x y r l rest : ℕ) → T (wall f x y) → Sought (via k f sa sc x y) k r l rest → getD sa l 0 ≤ x → getD sc l 0 ≤ y
       → unr k f sa sc x y r ≡ l ∷ unr k f sa sc (x - getD sa l 0) (y - getD sc l 0) rest
   unfolding unr
   unr-step x y r l rest h so a c =
       let g : ℕ → ℕ = λ j. count (grid (stepsIn k f sa sc)) (grid (stepsIn k f sa sc) .back (spot x y) j) in
       let q : r - sum g l ≡ rest = omega (arith, so .left, sum-cong g (via k f sa sc x y) l (λ j _. brought k f sa sc pos x y j)) in
       ap (λ (m : Option Spot). unrank (grid (stepsIn k f sa sc)) m r) (end-in k f sa sc x y h)
-      ∙ unrank-step (grid (stepsIn k f sa sc)) (grid-lawful (stepsIn k f sa sc) pos) (spot x y) r l (falls-cong (via k f sa sc x y) g k r l (λ j. sym (brought k f sa sc pos x y j)) (so .falls))
+      ∙ unrank-step (grid (stepsIn k f sa sc)) (grid-lawful (stepsIn k f sa sc) (onward k f sa sc pos)) (spot x y) r l (falls-cong (via k f sa sc x y) g k r l (λ j. sym (brought k f sa sc pos x y j)) (so .falls))
       ∙ ap (λ (w : List ℕ). l ∷ w) (ap₂ (unrank (grid (stepsIn k f sa sc))) (back-is k f sa sc x y l a c) q)
 
   -- a step that brings something comes from inside the table
@@ -97,8 +99,8 @@ module _ (k f : ℕ) (sa sc : List ℕ) (pos : (i : ℕ) → i < k → 1 ≤ get
     | no r ↦ absurd (omega (arith, via-left k f sa sc x y l (omega arith)))
   ]
 
-  pub W-in : (x y r : ℕ) → r < W k f sa sc x y → f * x ≤ y
-  W-in x y r h = elim (decLe (f * x) y) [ yes p ↦ p | no q ↦ absurd (omega (arith, W-out k f sa sc pos x y (omega arith))) ]
+  pub W-in : (x y r : ℕ) → r < W k f sa sc x y → T (wall f x y)
+  W-in x y r h = elim (tested (wall f x y)) [ yes p ↦ p | no q ↦ absurd (omega (arith, W-out k f sa sc pos x y q)) ]
 
 -- ---- bytes written at the end of a buffer
 
@@ -162,7 +164,7 @@ module _ {corner few : Bool} {k f : ℕ} {sa sc off : List ℕ} {hi m ex ey : �
     )
 
     module _ (px : 0 < x) where
-      inside-of : f * x ≤ y
+      inside-of : T (wall f x y)
       inside-of = W-in k f sa sc (pos-of plan-of) x y left (w .less)
 
       pub reads-of : Reads k f sa sc off val x y p

@@ -19,9 +19,10 @@ use lib.ListN.{length, getD}
 use borrow.Author.Tests.{lt-ltb, le-ltb}
 use Rattle.howmany.specs.Sum.{sum}
 use Rattle.howmany.proofs.Sums.{sum-cong}
-use Rattle.grid.specs.Form.{W, via}
+use Rattle.grid.specs.Form.{wall, W, via}
 use Rattle.grid.specs.Cells.{strideOf, place, sourceOf, colOf, Run, Column}
 use Rattle.grid.specs.Table.{Offsets, Plan, Ends, From, To, Cells, Sheet, Table, Small}
+use Rattle.grid.proofs.Walls.{tested, wall-in}
 use Rattle.grid.proofs.Laws.{sum-le, via-any, via-left, via-under, via-in, W-out}
 use Rattle.grid.proofs.Counts.{pos-of, W-high, W-first, W-pow}
 
@@ -81,12 +82,15 @@ module _ {k f : ℕ} {sa sc off : List ℕ} {hi m ex ey : ℕ} (pl : Plan k sa s
         further ha = omega arith
 
   -- a height that matters and isn't in the run has no walks
-  module _ (from to : ℕ) (fr : From f hi ex ey x from) (up : To hi ey x to) where
+  module _ (from to : ℕ) (fr : From f hi ex ey x from) (up : To f hi ey x to) where
     pub none-below : (y : ℕ) → Ends hi ex ey x y → y < from → W k f sa sc x y ≡ 0
     none-below y en l = W-out k f sa sc (pos-of pl) x y (fr .least y l (en .1))
 
     pub none-above : (y : ℕ) → Ends hi ex ey x y → to ≤ y → W k f sa sc x y ≡ 0
-    none-above y en l = W-high k f sa sc pl x x y (omega arith) lx (up .beyond y l (en .0))
+    none-above y en l = elim (tested (wall f x y)) [
+      | yes t ↦ W-high k f sa sc pl x x y (omega arith) lx (up .beyond y l (en .0) t)
+      | no t ↦ W-out k f sa sc (pos-of pl) x y t
+    ]
 
     -- the table after a column
     module _ (blank : (j : ℕ) → (x + 1) * strideOf m ey ≤ j → at j ≡ T 0) (lt : from < to) (at′ : ℕ → A) (before : (j : ℕ) → j < place m ey x from → at′ j ≡ at j) (after : (j : ℕ) → place m ey x to ≤ j → at′ j ≡ at j)
@@ -138,7 +142,7 @@ module _ {k f : ℕ} {sa sc off : List ℕ} {hi m ex ey : ℕ} (pl : Plan k sa s
         same u y l h en = let e : u ≡ x = omega arith in rw e (blank (place m ey x y) (omega arith) ∙ ap T (sym (none y (rw e at en))))
 
 module _ {k f : ℕ} {sa sc off : List ℕ} {hi m ex ey : ℕ} (pl : Plan k sa sc hi m ex) (of : Offsets sa sc off (strideOf m ey)) (val : List ℕ) {x : ℕ} (tb : Table k f sa sc hi m ex ey val x) (px : 1 ≤ x) (lx : x ≤ ex) where
-  module _ (n : ℕ) (n-pos : 1 ≤ n) (n-le : n ≤ 8) (gone : (i : ℕ) → n ≤ i → i < 8 → ex < getD sa i 0) (from to : ℕ) (fr : From f hi ex ey x from) (up : To hi ey x to) where
+  module _ (n : ℕ) (n-pos : 1 ≤ n) (n-le : n ≤ 8) (gone : (i : ℕ) → n ≤ i → i < 8 → ex < getD sa i 0) (from to : ℕ) (fr : From f hi ex ey x from) (up : To f hi ey x to) where
     ends-at : (t : ℕ) → from + t < to → Ends hi ex ey x (from + t)
     ends-at t l = (omega (arith, up .under), omega (arith, fr .ends))
 
@@ -146,7 +150,7 @@ module _ {k f : ℕ} {sa sc off : List ℕ} {hi m ex ey : ℕ} (pl : Plan k sa s
     sums t l = sum-cong _ _ n (λ i li. brings pl of (tb .cells) px lx from t i (omega arith) (ends-at t l .0) (ends-at t l .1))
 
     sums-are : (t : ℕ) → from + t < to → colOf n val sa off x (place m ey x from) t ≡ W k f sa sc x (from + t)
-    sums-are t l = sums t l ∙ sym (W-first k f sa sc pl n n-pos n-le gone x (from + t) px lx (omega (arith, fr .inside)))
+    sums-are t l = sums t l ∙ sym (W-first k f sa sc pl n n-pos n-le gone x (from + t) px lx (wall-in fr up (from + t) (omega arith) l))
 
     pub run-of : from < to → (ex + 2) * strideOf m ey ≤ length val → Small k f sa sc hi ex ey x → Run n val sa off x (place m ey x from) (to - from)
     run-of lt room sm = record {
@@ -180,7 +184,7 @@ module _ {k f : ℕ} {sa sc off : List ℕ} {hi m ex ey : ℕ} (pl : Plan k sa s
   pub pow-small-4 : ((i : ℕ) → 4 ≤ i → i < 8 → ex < getD sa i 0) → x ≤ 30 → Small k f sa sc hi ex ey x → Small k f sa sc hi ex ey (x + 1)
   pow-small-4 gone l sm = small-next sm (λ y en. omega (arith, W-pow k f sa sc pl 4 (omega arith) (omega arith) gone 30 x y l lx))
 
-  module _ (from to : ℕ) (fr : From f hi ex ey x from) (up : To hi ey x to) where
+  module _ (from to : ℕ) (fr : From f hi ex ey x from) (up : To f hi ey x to) where
     -- the table after a column
     module _ (n : ℕ) (n-pos : 1 ≤ n) (n-le : n ≤ 8) (gone : (i : ℕ) → n ≤ i → i < 8 → ex < getD sa i 0) (lt : from < to) (val′ : List ℕ) (co : Column n val val′ sa off x (place m ey x from) (to - from)) where
       here-at : (y : ℕ) → from ≤ y → y < to → getD val′ (place m ey x y) 0 ≡ W k f sa sc x y

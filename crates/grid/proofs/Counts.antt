@@ -10,16 +10,17 @@ use mathlib.Core.Bool.{Bool, true, false}
 use mathlib.Core.List.{List}
 use Prim.Native.Nat.{ℕ, zero, suc, _+_, _-_, _*_, _^_, _≤_, _<_}
 use native.Mathlib.Omega.{arith}
-use native.Mathlib.Decide.{decLe, decLt}
+use native.Mathlib.Decide.{decLe}
 use native.Mathlib.Nat.{mul-add, pow-zero, pow-succ', pow-le-pow-right, le-trans}
-use lib.Dec.{eqb}
+use lib.Dec.{T, eqb}
 use lib.ListN.{getD}
 use borrow.Author.Tests.{ne-eqb}
 use Rattle.howmany.specs.Choose.{bit}
 use Rattle.howmany.specs.Sum.{sum}
 use Rattle.howmany.proofs.Sums.{sum-none}
-use Rattle.grid.specs.Form.{W, via}
+use Rattle.grid.specs.Form.{wall, W, via}
 use Rattle.grid.specs.Table.{Plan}
+use Rattle.grid.proofs.Walls.{tested}
 use Rattle.grid.proofs.Laws.{sum-le, sum-rest, via-any, via-left, W-sum, W-out, W-start}
 
 mul-back : (h x a : ℕ) → a ≤ x → h * (x - a) + h * a ≡ h * x
@@ -33,14 +34,14 @@ pub pos-of : {k : ℕ} {sa sc : List ℕ} {hi m ex : ℕ} → Plan k sa sc hi m 
 pos-of pl i l = pl .pos i (omega (arith, pl .most))
 
 module _ (k f : ℕ) (sa sc : List ℕ) {hi m ex : ℕ} (pl : Plan k sa sc hi m ex) where
-  pub W-all : (x y : ℕ) → x ≤ ex → 0 < x → f * x ≤ y → W k f sa sc x y ≡ sum (via k f sa sc x y) 8
+  pub W-all : (x y : ℕ) → x ≤ ex → 0 < x → T (wall f x y) → W k f sa sc x y ≡ sum (via k f sa sc x y) 8
   W-all x y e p h = W-sum k f sa sc (pos-of pl) x y (pl .most) (λ i a b. omega (arith, pl .away i a b)) p h
 
   W-high-step : (d x y : ℕ) → ((u v : ℕ) → u ≤ d → u ≤ ex → hi * u < 6 * v → W k f sa sc u v ≡ 0) → 0 < x → x ≤ suc d → x ≤ ex → hi * x < 6 * y → W k f sa sc x y ≡ 0
   W-high-step d x y ih q p e h =
-      elim (decLt y (f * x)) [
-        | yes l ↦ W-out k f sa sc (pos-of pl) x y l
-        | no l ↦ W-all x y e q (omega arith)
+      elim (tested (wall f x y)) [
+        | no l ↦ W-out k f sa sc (pos-of pl) x y l
+        | yes l ↦ W-all x y e q l
             ∙ sum-none (via k f sa sc x y) 8 (λ i t. via-any k f sa sc (λ v. v ≡ 0) x y i refl
             (λ ha hc. ih (x - getD sa i 0) (y - getD sc i 0) (omega (arith, pl .pos i t)) (omega arith)
             (omega (arith, pl .steep i t (omega arith), mul-back hi x (getD sa i 0) ha))))
@@ -54,7 +55,7 @@ module _ (k f : ℕ) (sa sc : List ℕ) {hi m ex : ℕ} (pl : Plan k sa sc hi m 
   W-high (suc d) x y p e h = elim (decLe x 0) [ yes q ↦ W-high-start x y q h | no q ↦ W-high-step d x y (λ u v l r t. W-high d u v l r t) (omega arith) p e h ]
 
   module _ (n : ℕ) (n-pos : 1 ≤ n) (n-le : n ≤ 8) (gone : (i : ℕ) → n ≤ i → i < 8 → ex < getD sa i 0) where
-    pub W-first : (x y : ℕ) → 0 < x → x ≤ ex → f * x ≤ y → W k f sa sc x y ≡ sum (via k f sa sc x y) n
+    pub W-first : (x y : ℕ) → 0 < x → x ≤ ex → T (wall f x y) → W k f sa sc x y ≡ sum (via k f sa sc x y) n
     W-first x y p e h = W-all x y e p h ∙ sum-rest (via k f sa sc x y) n 8 n-le (λ i l r. via-left k f sa sc x y i (omega (arith, gone i l r)))
 
     pow-pos-of : (d : ℕ) → 1 ≤ n ^ d
@@ -66,11 +67,11 @@ module _ (k f : ℕ) (sa sc : List ℕ) {hi m ex : ℕ} (pl : Plan k sa sc hi m 
     pub W-pow : (d x y : ℕ) → x ≤ d → x ≤ ex → W k f sa sc x y ≤ n ^ d
     W-pow zero x y p e = W-least zero x y p
     W-pow (suc d) x y p e =
-        elim (decLt y (f * x)) [
-          | yes l ↦ rw (W-out k f sa sc (pos-of pl) x y l) (omega arith)
-          | no l ↦ elim (decLe x 0) [
+        elim (tested (wall f x y)) [
+          | no l ↦ rw (W-out k f sa sc (pos-of pl) x y l) (omega arith)
+          | yes l ↦ elim (decLe x 0) [
             | yes q ↦ W-least (suc d) x y q
-            | no q ↦ rw (W-first x y (omega arith) e (omega arith), pow-succ' n d)
+            | no q ↦ rw (W-first x y (omega arith) e l, pow-succ' n d)
                 (sum-le (via k f sa sc x y) (n ^ d) n
                 (λ i t. via-any k f sa sc (λ v. v ≤ n ^ d) x y i (omega arith)
                 (λ ha hc. W-pow d (x - getD sa i 0) (y - getD sc i 0) (omega (arith, pl .pos i (omega arith))) (omega arith))))

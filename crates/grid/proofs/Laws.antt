@@ -3,8 +3,8 @@
 --   sum-more                         the sum with one term more
 --   sum-le                           terms of at most b
 --   sum-rest                         the terms from n on are 0
---   pos-below                        what every step is that is there
---   W-start, W-out, W-step           the counts of column 0, beyond the fence, and elsewhere
+--   onward                           every step goes on, and the wall lets a walk begin
+--   W-start, W-out, W-step           the counts of column 0, beyond the wall, and elsewhere
 --   via-left, via-under, via-in      what a step brings
 --   via-any                          what holds of 0 and of every count before holds of what a step brings
 --   via-none, W-sum                  a step that isn't there brings 0, so the sum over all eight is the count
@@ -19,7 +19,7 @@ use native.Mathlib.Omega.{arith}
 use native.Mathlib.Numerals.{add-one}
 use native.Mathlib.Decide.{decLe}
 use native.Mathlib.Nat.{add-mul, mul-le-mul}
-use lib.Dec.{ltb, eqb}
+use lib.Dec.{T, ltb, eqb}
 use lib.Arith.{le-zero}
 use lib.ListN.{length, getD, set}
 use lib.Seq.{getD-set-same, getD-set-other}
@@ -27,11 +27,13 @@ use borrow.Author.Tests.{lt-ltb, le-ltb, le-leb, lt-leb, eq-eqb, ne-eqb, ltb-tru
 use Rattle.howmany.specs.Choose.{pick, bit}
 use Rattle.howmany.specs.Sum.{sum}
 use Rattle.howmany.proofs.Sums.{sum-suc, sum-mono}
+use Rattle.backward.specs.Grid.{Onward}
 use Rattle.backward.proofs.Grids.{paths-start, paths-step, paths-outside}
 use Rattle.grid.specs.declared.Answer.{Answer}
 use Rattle.grid.specs.declared.Answer.the-variants.{Count, Over}
-use Rattle.grid.specs.Form.{stepsIn, spot, W, via}
+use Rattle.grid.specs.Form.{wall, stepsIn, spot, W, via}
 use Rattle.grid.specs.Cells.{capBy, capOf, cellOf, Put}
+use Rattle.grid.proofs.Walls.{wall-start}
 
 -- ---- sums
 
@@ -55,6 +57,9 @@ pub mul-bound : (a b p q : ℕ) → a ≤ p → b ≤ q → a * b ≤ p * q
 mul-bound a b p q h l = mul-le-mul h l
 
 -- ---- the counts
+
+pub onward : (k f : ℕ) (sa sc : List ℕ) → ((i : ℕ) → i < k → 1 ≤ getD sa i 0) → Onward (stepsIn k f sa sc)
+onward k f sa sc pos = record { ahead = pos; begins = wall-start f }
 
 module _ (k f : ℕ) (sa sc : List ℕ) where
   module _ (x y i : ℕ) where
@@ -80,17 +85,17 @@ module _ (k f : ℕ) (sa sc : List ℕ) where
   module _ (pos : (i : ℕ) → i < k → 1 ≤ getD sa i 0) where
     pub W-start : (y : ℕ) → W k f sa sc 0 y ≡ bit (eqb y 0)
     unfolding W
-    W-start y = paths-start (stepsIn k f sa sc) pos y
+    W-start y = paths-start (stepsIn k f sa sc) (onward k f sa sc pos) y
 
-    pub W-out : (x y : ℕ) → y < f * x → W k f sa sc x y ≡ 0
+    pub W-out : (x y : ℕ) → (T (wall f x y) → ⊥) → W k f sa sc x y ≡ 0
     unfolding W
-    W-out x y h = paths-outside (stepsIn k f sa sc) pos (spot x y) h
+    W-out x y h = paths-outside (stepsIn k f sa sc) (onward k f sa sc pos) (spot x y) h
 
-    pub W-step : (x y : ℕ) → 0 < x → f * x ≤ y → W k f sa sc x y ≡ sum (via k f sa sc x y) k
+    pub W-step : (x y : ℕ) → 0 < x → T (wall f x y) → W k f sa sc x y ≡ sum (via k f sa sc x y) k
     unfolding W via
-    W-step x y p h = paths-step (stepsIn k f sa sc) pos (spot x y) p h
+    W-step x y p h = paths-step (stepsIn k f sa sc) (onward k f sa sc pos) (spot x y) p h
 
-    pub W-sum : (x y : ℕ) → k ≤ 8 → ((i : ℕ) → k ≤ i → i < 8 → x < getD sa i 0) → 0 < x → f * x ≤ y → W k f sa sc x y ≡ sum (via k f sa sc x y) 8
+    pub W-sum : (x y : ℕ) → k ≤ 8 → ((i : ℕ) → k ≤ i → i < 8 → x < getD sa i 0) → 0 < x → T (wall f x y) → W k f sa sc x y ≡ sum (via k f sa sc x y) 8
     W-sum x y l gone p h = W-step x y p h ∙ sym (sum-rest (via k f sa sc x y) k 8 l (λ i a b. via-left x y i (gone i a b)))
 
 -- ---- answers

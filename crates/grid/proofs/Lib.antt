@@ -1,3 +1,4 @@
+pub mod Walls
 pub mod Laws
 pub mod Sums
 pub mod Counts

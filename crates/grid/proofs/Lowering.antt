@@ -1,5 +1,6 @@
 -- Laws of lower heights: slopes and heights over one step more, and what a shape in lower heights shows. Assumes nothing.
 --
+--   product                                 a bound of a product
 --   slope-low, slope-high                   a step's slope, by which number of columns it has
 --   bounds-none, bounds-low, bounds-high, bounds-at    a slope that bounds the first steps, one step more, all steps
 --   heights-none, heights-more, heights-at  the heights of the first steps, of one more, of all
@@ -21,12 +22,15 @@ use Rattle.backward.specs.Grid.{Spot, Steps, grid, way}
 use Rattle.backward.specs.Shears.{Slid}
 use Rattle.backward.proofs.Carried.{Barren}
 use Rattle.backward.proofs.Shears.{below-barren, above-barren, enter-barren}
-use Rattle.grid.specs.Heights.{Height, Bounds, Heights}
+use Rattle.grid.specs.Heights.{Height, Bounds, Heights, Turned}
 use Rattle.grid.specs.Shapes.{FormOf, Shows, stepsAt, endAt, Beyond, Lowered, View}
 use Rattle.grid.specs.Shapes.Shows.{slid, mirrored}
 use Rattle.grid.specs.Shapes.Beyond.{below, above}
 use Rattle.grid.specs.Shapes.Lowered.{reached}
 use Rattle.grid.specs.declared.shape.Shape.{Shape}
+
+pub product : (a b c d n : ℕ) → a ≤ c → b ≤ d → c * d ≤ n → a * b ≤ n
+product a b c d n l h e = le-trans (mul-le-mul l h) e
 
 -- ---- slopes
 
@@ -88,9 +92,9 @@ module _ (s : Shape) (d f ey : ℕ) (up : List ℕ) where
   abbrev seen : Shape
   seen = record { state = s .state; corner = s .corner; k = s .k; f = f; top = s .top; ex = s .ex; ey = ey; sa = s .sa; sc = up }
 
-  -- slid heights are no more than before; a mirrored one is 6a - c at most, and c is 3a - 3 at least
+  -- slid heights are no more than before, 3a + 3 at most; a mirrored one is 6a - c at most, and c is 3a - 3 at least
   there : (t : Bool) → View t d s → Heights t d (s .sa) (s .sc) up (s .k) → (i : ℕ) → i < s .k → getD up i 0 ≤ s .top
-  there false v u i l = omega (arith, u .each i l, v .gentle .form .low i (omega (arith, v .gentle .form .most)))
+  there false v u i l = omega (arith, u .each i l, v .gentle .lifted .near i l, v .gentle .lifted .most i l, v .gentle .top-is)
   there true v u i l =
       omega (
         arith,
@@ -105,44 +109,45 @@ module _ (s : Shape) (d f ey : ℕ) (up : List ℕ) where
   low t v u i l (yes h) = there t v u i h
   low t v u i l (no h) = omega (arith, u .flat i (omega arith) l)
 
-  no-higher : (t : Bool) → View t d s → Height t (s .ey) (d * s .ex) ey → ey ≤ s .ey
-  no-higher false v h = omega arith
-  no-higher true v h = omega (arith, v .near tt)
-
-  form : (t : Bool) → View t d s → f ≡ s .f - d → Height t (s .ey) (d * s .ex) ey → Heights t d (s .sa) (s .sc) up (s .k) → FormOf seen
+  -- 34 columns of 109 cells at most
+  form : (t : Bool) → View t d s → f ≤ 22 → Height t (s .ey) (d * s .ex) ey → Heights t d (s .sa) (s .sc) up (s .k) → FormOf seen
   form t v e h u =
-      let w = v .gentle .form in
-      let l : ey ≤ s .ey = no-higher t v h in
+      let w = v .gentle in
+      let l : ey ≤ 96 = v .near ey h in
+      let top : s .top ≡ 12 = w .top-is in
+      let wide : s .ex ≤ 32 = w .wide in
       record {
         eight = w .eight;
         eight-too = u .eight;
         some = w .some;
-        most = w .most;
-        ahead = w .ahead;
-        near = w .near;
+        most = w .lifted .few;
+        ahead = w .lifted .ahead;
+        near = w .lifted .near;
         away = w .away;
         flat = u .flat;
         low = λ i k. low t v u i k (decLt i (s .k));
-        top-le = w .top-le;
-        f-le = omega (arith, w .f-le);
-        ex-le = w .ex-le;
-        ey-le = omega (arith, w .ey-le);
-        cells = le-trans (mul-le-mul (le-refl (s .ex + 2)) (omega arith)) (w .cells);
+        top-le = omega arith;
+        f-le = e;
+        ex-le = omega arith;
+        ey-le = l;
+        cells = product (s .ex + 2) (s .top + ey + 1) 34 109 3712 (omega arith) (omega arith) (omega arith);
       }
 
-  shows : (t : Bool) → View t d s → f ≡ s .f - d → Height t (s .ey) (d * s .ex) ey → Heights t d (s .sa) (s .sc) up (s .k) → Shows (stepsAt s) (endAt s) seen
-  shows false v e h u = slid d (record { many = refl; right = λ i l. refl; up = u .each; fence = e }) (refl, h)
-  shows true v e h u =
-      mirrored d (record { many = refl; right = λ i l. refl; up = u .each; free = v .free tt; free-too = omega (arith, v .free tt) }) (refl, h)
+  shows : (t : Bool) → Turned t (s .f) d f → Height t (s .ey) (d * s .ex) ey → Heights t d (s .sa) (s .sc) up (s .k) → Shows (stepsAt s) (endAt s) seen
+  shows false w h u = slid d (record { many = refl; right = λ i l. refl; up = u .each; wall = w }) (refl, h)
+  shows true w h u = mirrored d (record { many = refl; right = λ i l. refl; up = u .each; wall = w }) (refl, h)
 
-  pub view-lowered : (t : Bool) → View t d s → f ≡ s .f - d → Height t (s .ey) (d * s .ex) ey → Heights t d (s .sa) (s .sc) up (s .k) → Lowered s seen
-  view-lowered t v e h u = reached (v .gentle .state-is) refl (form t v e h u) (shows t v e h u)
+  pub view-lowered : (t : Bool) → View t d s → (f ≤ 22) × Turned t (s .f) d f → Height t (s .ey) (d * s .ex) ey → Heights t d (s .sa) (s .sc) up (s .k) → Lowered s seen
+  view-lowered t v w h u = reached (v .gentle .state-is) refl (form t v (w .0) h u) (shows t (w .1) h u)
 
 -- ---- two grids with the same steps
 
 module _ (G K : Steps) (w : Slid 0 G K) where
   times : (d i : ℕ) → i < K .k → d * K .a i ≡ d * G .a i
   times d i l = ap (λ (x : ℕ). d * x) (w .right i l)
+
+  same : (x y : ℕ) → K .stays x y ≡ G .stays x y
+  same x y = let e : y + 0 * x ≡ y = omega arith in w .wall x y ∙ ap (G .stays x) e
 
   pub shows-same : (q : Spot) (r : Shape) → Shows K q r → Shows G q r
   shows-same q r (slid d l a) =
@@ -151,7 +156,7 @@ module _ (G K : Steps) (w : Slid 0 G K) where
         many = l .many ∙ w .many;
         right = λ i h. l .right i h ∙ w .right i (omega (arith, l .many));
         up = λ i h. omega (arith, l .up i h, w .up i (omega (arith, l .many)), times d i (omega (arith, l .many)));
-        fence = omega (arith, l .fence, w .fence);
+        wall = λ x y. l .wall x y ∙ same x (y + d * x);
       })
       a
   shows-same q r (mirrored d l a) =
@@ -160,8 +165,7 @@ module _ (G K : Steps) (w : Slid 0 G K) where
         many = l .many ∙ w .many;
         right = λ i h. l .right i h ∙ w .right i (omega (arith, l .many));
         up = λ i h. omega (arith, l .up i h, w .up i (omega (arith, l .many)), times d i (omega (arith, l .many)));
-        free = omega (arith, l .free, w .fence);
-        free-too = l .free-too;
+        wall = λ x y h. l .wall x y h ∙ same x (d * x - y);
       })
       a
 

@@ -11,8 +11,9 @@ use mathlib.Core.Bool.{Bool, true, false}
 use mathlib.Core.List.{List, _∷_}
 use Prim.Native.Nat.{ℕ, _+_, _-_, _*_, _^_, _≤_, _<_}
 use native.Mathlib.Omega.{arith}
-use native.Mathlib.Decide.{decLe, decLt}
+use native.Mathlib.Decide.{decLe}
 use native.Mathlib.Nat.{mul-add, add-zero}
+use lib.Dec.{T}
 use lib.ListN.{length, getD}
 use Rattle.howmany.specs.Sum.{sum}
 use Rattle.howmany.proofs.Sums.{sum-cong, sum-mono, sum-below}
@@ -21,13 +22,14 @@ use Rattle.backward.specs.Reader.{rank, count}
 use Rattle.backward.specs.Grid.{grid, paths}
 use Rattle.backward.proofs.Backward.{rank-below}
 use Rattle.backward.proofs.Grids.{grid-lawful, back-count}
-use Rattle.grid.specs.Form.{stepsIn, spot, W, via}
+use Rattle.grid.specs.Form.{wall, stepsIn, spot, W, via}
 use Rattle.letters.specs.Letters.{placeOf}
 use Rattle.grid.specs.Cells.{capOf, cellAt, strideOf, place, sourceOf}
 use Rattle.grid.specs.Table.{Plan, Prepared, Cells}
 use Rattle.grid.specs.Filling.{Solid}
 use Rattle.grid.specs.Edges.{endOf, numberOf, Stand, Reads, Ranking}
-use Rattle.grid.proofs.Laws.{sum-more, via-in, W-step, cell-value}
+use Rattle.grid.proofs.Walls.{tested}
+use Rattle.grid.proofs.Laws.{onward, sum-more, via-in, W-step, cell-value}
 use Rattle.grid.proofs.Counts.{pos-of}
 use Rattle.grid.proofs.Columns.{source-left, source-in, rows, grow, brings}
 use Rattle.grid.proofs.Phases.{last-row}
@@ -37,13 +39,13 @@ use Rattle.grid.proofs.Reading.{wordTo, word-all, word-cons, word-none,
 
 pub brought : (k f : ℕ) (sa sc : List ℕ) → ((i : ℕ) → i < k → 1 ≤ getD sa i 0) → (x y j : ℕ) → count (grid (stepsIn k f sa sc)) (grid (stepsIn k f sa sc) .back (spot x y) j) ≡ via k f sa sc x y j
 unfolding via
-brought k f sa sc pos x y j = back-count (stepsIn k f sa sc) pos (spot x y) j
+brought k f sa sc pos x y j = back-count (stepsIn k f sa sc) (onward k f sa sc pos) (spot x y) j
 
 false-true : {b : Bool} → b ≡ false → b ≡ true → ⊥
 false-true p q = let z : _≡_ {A = ℕ} 0 1 = cc in omega arith
 
 pub record Read (corner : Bool) (k f : ℕ) (sa sc e : List ℕ) (i x y l : ℕ) : Type 0 where
-  pub inside : f * x ≤ y
+  pub inside : T (wall f x y)
   pub below : l < k
   pub right : getD sa l 0 ≤ x
   pub up : getD sc l 0 ≤ y
@@ -64,16 +66,16 @@ module _ (corner : Bool) (k f : ℕ) (sa sc e : List ℕ) where
   module _ (pos : (i : ℕ) → i < k → 1 ≤ getD sa i 0) where
     pub read-of : (i x y l : ℕ) → 0 < i → l ≡ placeOf corner (getD e (i - 1) 0) → ok corner k f sa sc e i x y ≡ true → Read corner k f sa sc e i x y l
     read-of i x y l h q v =
-        elim (decLt y (f * x)) [
-          | yes o ↦ absurd (false-true (ok-out corner k f sa sc e pos i x y l h q o) v)
-          | no o ↦ elim (decLe k l) [
-            | yes b ↦ absurd (false-true (ok-no-letter corner k f sa sc e pos i x y l h q (omega arith) b) v)
+        elim (tested (wall f x y)) [
+          | no o ↦ absurd (false-true (ok-out corner k f sa sc e pos i x y l h q o) v)
+          | yes o ↦ elim (decLe k l) [
+            | yes b ↦ absurd (false-true (ok-no-letter corner k f sa sc e pos i x y l h q o b) v)
             | no b ↦ elim (decLe (getD sa l 0) x) [
               | yes a ↦ elim (decLe (getD sc l 0) y) [
-                | yes c ↦ record { inside = omega arith; below = omega arith; right = a; up = c; rest = sym (ok-step corner k f sa sc e pos i x y l h q (omega arith) (omega arith) a c) ∙ v }
-                | no c ↦ absurd (false-true (ok-under corner k f sa sc e pos i x y l h q (omega arith) a (omega arith)) v)
+                | yes c ↦ record { inside = o; below = omega arith; right = a; up = c; rest = sym (ok-step corner k f sa sc e pos i x y l h q o (omega arith) a c) ∙ v }
+                | no c ↦ absurd (false-true (ok-under corner k f sa sc e pos i x y l h q o a (omega arith)) v)
               ]
-              | no a ↦ absurd (false-true (ok-left corner k f sa sc e pos i x y l h q (omega arith) (omega arith)) v)
+              | no a ↦ absurd (false-true (ok-left corner k f sa sc e pos i x y l h q o (omega arith)) v)
             ]
           ]
         ]
@@ -93,7 +95,7 @@ module _ (corner : Bool) (k f : ℕ) (sa sc e : List ℕ) where
     -- a valid edge's number is below the count
     pub num-below : (i x y : ℕ) → ok corner k f sa sc e i x y ≡ true → num corner k f sa sc e i x y < W k f sa sc x y
     unfolding num ok W paths
-    num-below i x y v = rank-below (grid (stepsIn k f sa sc)) (grid-lawful (stepsIn k f sa sc) pos) (wordTo (placeOf corner) e i) (endOf k f sa sc x y) (holds v)
+    num-below i x y v = rank-below (grid (stepsIn k f sa sc)) (grid-lawful (stepsIn k f sa sc) (onward k f sa sc pos)) (wordTo (placeOf corner) e i) (endOf k f sa sc x y) (holds v)
 
 -- ---- a filled table
 
@@ -101,7 +103,7 @@ cells-less : {k f : ℕ} {sa sc : List ℕ} {hi m ex ey : ℕ} {val : List ℕ} 
 cells-less s x l = record { right = λ u y h en. s .flags .right u y (omega arith) en; margin = s .flags .margin; front = s .flags .front }
 
 module _ {few : Bool} {k f : ℕ} {sa sc off : List ℕ} {hi m ex ey : ℕ} {val : List ℕ} (r : Prepared few k f sa sc off hi m ex ey (length val)) (so : Solid k f sa sc hi m ex ey val) {x y p : ℕ}
-    (sp : Stand k f sa sc hi m ex ey x y p) (px : 1 ≤ x) (ins : f * x ≤ y) where
+    (sp : Stand k f sa sc hi m ex ey x y p) (px : 1 ≤ x) (ins : T (wall f x y)) where
   all-of : W k f sa sc x y ≡ sum (via k f sa sc x y) k
   all-of = W-step k f sa sc (pos-of (r .plan)) x y px ins
 

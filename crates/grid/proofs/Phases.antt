@@ -28,6 +28,7 @@ use Rattle.grid.specs.Form.{W, via}
 use Rattle.grid.specs.Cells.{capOf, cellAt, Put, strideOf, place, sourceOf}
 use Rattle.grid.specs.Table.{Sizes, Prepared, Ready, From, To, Cells, Table, Flagged, Small}
 use Rattle.grid.specs.Filling.{Begun, Got, Turn, Slow, Part, Parts, Filled}
+use Rattle.grid.proofs.Walls.{wall-in}
 use Rattle.grid.proofs.Laws.{W-start, mul-bound, cap-lt, cell-zero}
 use Rattle.grid.proofs.Counts.{pos-of, W-all}
 use Rattle.grid.proofs.Columns.{source-left, source-in, rows, grow, one-more, brings, sheet-next, sheet-same}
@@ -156,7 +157,7 @@ module _ {few : Bool} {k f : ℕ} {sa sc off : List ℕ} {hi m ex ey : ℕ} {val
     }
       where
         now-at : (t : ℕ) → t ≡ y → cellAt v′ o′ (place m ey x t) ≡ capOf (W k f sa sc x t)
-        now-at t z = rw (z, ← e) (pu .here ∙ er ∙ ap capOf (sym (W-all k f sa sc (s .turn .ready .plan) x y (s .turn .end) (s .turn .start) (omega (arith, s .fr .inside)))))
+        now-at t z = rw (z, ← e) (pu .here ∙ er ∙ ap capOf (sym (W-all k f sa sc (s .turn .ready .plan) x y (s .turn .end) (s .turn .start) (wall-in (s .fr) (s .up) y lf lt))))
 
   pub slow-done : {val ov : List ℕ} {y : ℕ} → Part k f sa sc m ey x from val₀ ov₀ val ov y → y ≡ to → Flagged k f sa sc hi m ex ey val ov (x + 1)
   slow-done {val} {ov} {y} p e =
@@ -171,7 +172,7 @@ said {val = val} {ov = ov} pa i l es er = er ∙ ap (cellAt val ov) es ∙ pa .s
 
 -- turn and rest
 
-module _ {few : Bool} {k f : ℕ} {sa sc off : List ℕ} {hi m ex ey : ℕ} {val ov : List ℕ} {x : ℕ} (t : Turn few k f sa sc off hi m ex ey val ov x) {from to : ℕ} (fr : From f hi ex ey x from) (up : To hi ey x to) where
+module _ {few : Bool} {k f : ℕ} {sa sc off : List ℕ} {hi m ex ey : ℕ} {val ov : List ℕ} {x : ℕ} (t : Turn few k f sa sc off hi m ex ey val ov x) {from to : ℕ} (fr : From f hi ex ey x from) (up : To f hi ey x to) where
   pub turn-none : to ≤ from → Flagged k f sa sc hi m ex ey val ov (x + 1)
   turn-none l = sheet-same (t .ready .plan) (t .ready .offs) (t .table .cells) (t .start) (t .end) from to fr up (t .table .blank) l
 
@@ -179,10 +180,10 @@ module _ {few : Bool} {k f : ℕ} {sa sc off : List ℕ} {hi m ex ey : ℕ} {val
   turn-slow l = record { turn = t; fr = fr; up = up; lt = l }
 
 module _ {k f : ℕ} {sa sc : List ℕ} {hi m ex ey : ℕ} (val : List ℕ) {x : ℕ} (r : Table k f sa sc hi m ex ey val x) (fits : (j : ℕ) → getD val j 0 < 2 ^ 64) where
-  unflagged : (j : ℕ) → cellAt val (replicate 7040 0) j ≡ capOf (getD val j 0)
-  unflagged j = cell-zero (getD val j 0) _ (zeros-at 7040 j) ∙ sym (cap-lt _ (fits j))
+  unflagged : (j : ℕ) → cellAt val (replicate 3712 0) j ≡ capOf (getD val j 0)
+  unflagged j = cell-zero (getD val j 0) _ (zeros-at 3712 j) ∙ sym (cap-lt _ (fits j))
 
-  pub resume : Flagged k f sa sc hi m ex ey val (replicate 7040 0) x
+  pub resume : Flagged k f sa sc hi m ex ey val (replicate 3712 0) x
   resume = record {
     cells = record {
       right = λ u y l en. unflagged (place m ey u y) ∙ ap capOf (r .cells .right u y l en);
@@ -192,7 +193,7 @@ module _ {k f : ℕ} {sa sc : List ℕ} {hi m ex ey : ℕ} (val : List ℕ) {x :
     blank = λ j l. unflagged j ∙ ap capOf (r .blank j l);
   }
 
-  pub resume-cells : Cells capOf (cellAt val (replicate 7040 0)) k f sa sc hi m ex ey x
+  pub resume-cells : Cells capOf (cellAt val (replicate 3712 0)) k f sa sc hi m ex ey x
   resume-cells = resume .cells
 
 pub last-row : (ex s : ℕ) → (ex + 1) * s + s ≡ (ex + 2) * s
@@ -209,11 +210,11 @@ module _ {k f : ℕ} {sa sc : List ℕ} {hi m ex ey : ℕ} {val : List ℕ} {x :
   pub got-filled : ((j : ℕ) → getD val j 0 < 2 ^ 64) → {v p : ℕ} → v ≡ getD val p 0 → p ≡ place m ey ex ey → Filled k f sa sc hi m ex ey val (Count v)
   got-filled fits {v} {p} ev ep = record {
     answer = sym (cap-lt v (omega (arith, fits p))) ∙ ap capOf (ev ∙ ap (λ (j : ℕ). getD val j 0) ep ∙ g .table .cells .right ex ey (omega arith) (omega arith, omega arith));
-    solid = λ n. record { ov = replicate 7040 0; flags = rw e at (resume-cells val (g .table) fits) };
+    solid = λ n. record { ov = replicate 3712 0; flags = rw e at (resume-cells val (g .table) fits) };
   }
 
 module _ {few : Bool} {k f : ℕ} {sa sc off : List ℕ} {hi m ex ey size : ℕ} (r : Prepared few k f sa sc off hi m ex ey size) where
-  pub end-cells : (ex + 1) * strideOf m ey + strideOf m ey ≤ 7040
+  pub end-cells : (ex + 1) * strideOf m ey + strideOf m ey ≤ 3712
   end-cells = rw (last-row ex (strideOf m ey)) (r .sizes .cells)
 
   pub end-room : (ex + 1) * strideOf m ey + strideOf m ey ≤ size

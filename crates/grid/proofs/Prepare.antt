@@ -79,7 +79,7 @@ module _ {k f : ℕ} {sa sc : List ℕ} {top ex ey : ℕ} (fo : Form k f sa sc t
   far-times i stride l h = mul-bound (getD sa i 0) stride 100 2001 (form-far i l) h
 
   module _ {hi m : ℕ} (st : Steepest sa sc ex hi 8) (de : Deepest sa sc top ex m 8) where
-    pub cells-le : (ex + 2) * strideOf m ey ≤ 7040
+    pub cells-le : (ex + 2) * strideOf m ey ≤ 3712
     cells-le = le-trans (mul-le-mul-left (ex + 2) (omega (arith, de .le))) (fo .cells)
 
     pub prepared : {few : Bool} {off : List ℕ} → Few few sa ex → Offsets sa sc off (strideOf m ey) → (size : ℕ) → (ex + 2) * strideOf m ey ≤ size → Prepared few k f sa sc off hi m ex ey size

@@ -3,20 +3,20 @@
 --   wordTo p e i                the first i letters of e as steps, the last one first
 --   word-all, word-cons, word-none    all of e, one letter, no letters
 --   back-is, back-left, back-under    what a step leads back to
---   end-in, end-out             the end inside the fence, and beyond it
+--   end-in, end-out             the end behind the wall, and beyond it
 --   ok, ok-all                  whether the first i letters lead to (x, y); all of them
 --   ok-out, ok-no-letter, ok-left, ok-under, ok-step    one letter read
 --   ok-end                      no letters left
---   Checking, checking-start, checking-more, fence-fits, ends-fit, not-.., is-valid    the loop of `valid`
-use mathlib.Core.Path.{_≡_, refl, sym, ap, ap₂, _∙_}
+--   Checking, checking-start, checking-more, stays-fits, ends-fit, not-.., is-valid    the loop of `valid`
+use mathlib.Core.Path.{_≡_, refl, sym, ap, ap₂, _∙_, subst}
 use mathlib.Core.Bool.{Bool, true, false, _&&_, and-false}
 use mathlib.Core.Option.{none, some}
 use mathlib.Core.List.{List, [], _∷_, _++_, map, reverse, reverse-cons}
-use Prim.Native.Nat.{ℕ, zero, suc, _+_, _-_, _*_, _≤_, _<_}
+use Prim.Native.Nat.{ℕ, zero, suc, _+_, _-_, _≤_, _<_}
 use native.Mathlib.Omega.{arith}
 use native.Mathlib.Decide.{decLe}
 use native.Mathlib.Nat.{not-suc-le-zero}
-use lib.Dec.{leb, ltb, eqb, leb→le, le→leb, lt→ltb}
+use lib.Dec.{T, ltb, eqb, lt→ltb}
 use lib.ListN.{length, getD}
 use borrow.Author.Tests.{le-leb, lt-leb, ne-eqb, eq-eqb}
 use Rattle.howmany.specs.Choose.{onlyIf}
@@ -25,10 +25,11 @@ use Rattle.backward.specs.Reader.{valid}
 use Rattle.backward.specs.Grid.{grid}
 use Rattle.backward.proofs.Backward.{valid-stop, valid-no-letter, none-valid}
 use Rattle.backward.proofs.Grids.{grid-lawful}
-use Rattle.grid.specs.Form.{stepsIn, spot, Form}
+use Rattle.grid.specs.Form.{wall, stepsIn, spot, Form}
 use Rattle.letters.specs.Letters.{placeOf}
 use Rattle.grid.specs.Edges.{endOf, isEdge}
-use Rattle.grid.proofs.Laws.{mul-bound}
+use Rattle.grid.proofs.Walls.{wall-start}
+use Rattle.grid.proofs.Laws.{onward}
 
 -- ---- words
 
@@ -68,11 +69,11 @@ module _ (k f : ℕ) (sa sc : List ℕ) (x y l : ℕ) where
   pub back-under : getD sa l 0 ≤ x → y < getD sc l 0 → grid (stepsIn k f sa sc) .back (spot x y) l ≡ none
   back-under ha h = rw (le-leb (getD sa l 0) x ha, lt-leb (getD sc l 0) y h)
 
-pub end-in : (k f : ℕ) (sa sc : List ℕ) (x y : ℕ) → f * x ≤ y → endOf k f sa sc x y ≡ some (spot x y)
-end-in k f sa sc x y h = only-true (leb (f * x) y) (spot x y) (le→leb (f * x) y h)
+pub end-in : (k f : ℕ) (sa sc : List ℕ) (x y : ℕ) → T (wall f x y) → endOf k f sa sc x y ≡ some (spot x y)
+end-in k f sa sc x y h = only-true (wall f x y) (spot x y) h
 
-pub end-out : (k f : ℕ) (sa sc : List ℕ) (x y : ℕ) → y < f * x → endOf k f sa sc x y ≡ none
-end-out k f sa sc x y h = only-none (leb (f * x) y) (spot x y) (λ t. omega (arith, leb→le (f * x) y t))
+pub end-out : (k f : ℕ) (sa sc : List ℕ) (x y : ℕ) → (T (wall f x y) → ⊥) → endOf k f sa sc x y ≡ none
+end-out k f sa sc x y h = only-none (wall f x y) (spot x y) h
 
 -- ---- validity
 
@@ -91,18 +92,18 @@ module _ (corner : Bool) (k f : ℕ) (sa sc e : List ℕ) where
   ok-all x y = ap (λ (w : List ℕ). valid (grid (stepsIn k f sa sc)) w (endOf k f sa sc x y)) (word-all (placeOf corner) e)
 
   module _ (i x y : ℕ) (h : i ≤ 0) where
-    ok-none : ok corner k f sa sc e i x y ≡ leb (f * x) y && (eqb x 0 && eqb y 0)
+    ok-none : ok corner k f sa sc e i x y ≡ wall f x y && (eqb x 0 && eqb y 0)
     unfolding ok
-    ok-none = ap (λ (w : List ℕ). valid (grid (stepsIn k f sa sc)) w (endOf k f sa sc x y)) (word-none (placeOf corner) e i h) ∙ none-left k f sa sc (leb (f * x) y) x y
+    ok-none = ap (λ (w : List ℕ). valid (grid (stepsIn k f sa sc)) w (endOf k f sa sc x y)) (word-none (placeOf corner) e i h) ∙ none-left k f sa sc (wall f x y) x y
 
     ok-far : (x ≤ 0 → ⊥) → ok corner k f sa sc e i x y ≡ false
-    ok-far n = ok-none ∙ rw (ne-eqb x 0 (λ q. n (omega arith))) (and-false (leb (f * x) y))
+    ok-far n = ok-none ∙ rw (ne-eqb x 0 (λ q. n (omega arith))) (and-false (wall f x y))
 
     ok-high : x ≤ 0 → (y ≤ 0 → ⊥) → ok corner k f sa sc e i x y ≡ false
-    ok-high z n = ok-none ∙ rw (ne-eqb y 0 (λ q. n (omega arith)), eq-eqb x 0 (omega arith)) (and-false (leb (f * x) y))
+    ok-high z n = ok-none ∙ rw (ne-eqb y 0 (λ q. n (omega arith)), eq-eqb x 0 (omega arith)) (and-false (wall f x y))
 
     ok-start : x ≡ 0 → y ≡ 0 → ok corner k f sa sc e i x y ≡ true
-    ok-start z n = ok-none ∙ rw (z, n, le-leb (f * 0) 0 (omega arith)) refl
+    ok-start z n = ok-none ∙ rw (z, n, is-true (wall f 0 0) (wall-start f)) refl
 
     pub ok-end : eqb (x + y) 0 ≡ ok corner k f sa sc e i x y
     ok-end =
@@ -116,12 +117,12 @@ module _ (corner : Bool) (k f : ℕ) (sa sc e : List ℕ) where
     unfolding ok
     ok-cons = ap (λ (w : List ℕ). valid (grid (stepsIn k f sa sc)) w (endOf k f sa sc x y)) (word-cons (placeOf corner) e i l h q)
 
-    pub ok-out : y < f * x → ok corner k f sa sc e i x y ≡ false
+    pub ok-out : (T (wall f x y) → ⊥) → ok corner k f sa sc e i x y ≡ false
     ok-out o =
         ok-cons ∙ ap (valid (grid (stepsIn k f sa sc)) (l ∷ wordTo (placeOf corner) e (i - 1))) (end-out k f sa sc x y o)
-        ∙ is-false (valid (grid (stepsIn k f sa sc)) (l ∷ wordTo (placeOf corner) e (i - 1)) none) (none-valid (grid (stepsIn k f sa sc)) (grid-lawful (stepsIn k f sa sc) pos) (l ∷ wordTo (placeOf corner) e (i - 1)))
+        ∙ is-false (valid (grid (stepsIn k f sa sc)) (l ∷ wordTo (placeOf corner) e (i - 1)) none) (none-valid (grid (stepsIn k f sa sc)) (grid-lawful (stepsIn k f sa sc) (onward k f sa sc pos)) (l ∷ wordTo (placeOf corner) e (i - 1)))
 
-    module _ (n : f * x ≤ y) where
+    module _ (n : T (wall f x y)) where
       ok-some : ok corner k f sa sc e i x y ≡ valid (grid (stepsIn k f sa sc)) (l ∷ wordTo (placeOf corner) e (i - 1)) (some (spot x y))
       ok-some = ok-cons ∙ ap (valid (grid (stepsIn k f sa sc)) (l ∷ wordTo (placeOf corner) e (i - 1))) (end-in k f sa sc x y n)
 
@@ -152,14 +153,14 @@ pub checking-start : {corner : Bool} {k f : ℕ} {sa sc : List ℕ} {top ex ey :
 checking-start {corner} {k} {f} {sa} {sc} {top} {ex} {ey} {e} fo = record { form = fo; x-le = omega arith; y-le = omega arith; i-le = omega arith; same = ok-all corner k f sa sc e ex ey }
 
 module _ {corner : Bool} {k f : ℕ} {sa sc : List ℕ} {top ex ey : ℕ} {e : List ℕ} {x y i : ℕ} (ch : Checking corner k f sa sc top ex ey e x y i) where
-  pub fence-fits : f * x ≤ 3 * 97
-  fence-fits = mul-bound f x 3 97 (ch .form .f-le) (omega (arith, ch .x-le, ch .form .ex-le))
+  pub stays-fits : (f ≤ 100) × (x ≤ 97)
+  stays-fits = (omega (arith, ch .form .f-le), omega (arith, ch .x-le, ch .form .ex-le))
 
   module _ (h : 0 < i) {l : ℕ} (q : l ≡ placeOf corner (getD e (i - 1) 0)) where
-    pub not-inside : y < f * x → false ≡ isEdge corner k f sa sc ex ey e
-    not-inside o = sym (ok-out corner k f sa sc e (ch .form .ahead) i x y l h q o) ∙ ch .same
+    pub not-inside : wall f x y ≡ false → false ≡ isEdge corner k f sa sc ex ey e
+    not-inside o = sym (ok-out corner k f sa sc e (ch .form .ahead) i x y l h q (λ t. subst T o t)) ∙ ch .same
 
-    module _ (n : f * x ≤ y) where
+    module _ (n : T (wall f x y)) where
       pub not-letter : k ≤ l → false ≡ isEdge corner k f sa sc ex ey e
       not-letter o = sym (ok-no-letter corner k f sa sc e (ch .form .ahead) i x y l h q n o) ∙ ch .same
 
@@ -178,7 +179,7 @@ module _ {corner : Bool} {k f : ℕ} {sa sc : List ℕ} {top ex ey : ℕ} {e : L
         same = sym (ok-step corner k f sa sc e (ch .form .ahead) i x y l h q n b a c) ∙ ch .same;
       }
 
-  pub ends-fit : x + y ≤ 97 + 192
+  pub ends-fit : x + y ≤ 97 + 96
   ends-fit = omega (arith, ch .x-le, ch .y-le, ch .form .ex-le, ch .form .ey-le)
 
   pub is-valid : i ≤ 0 → eqb (x + y) 0 ≡ isEdge corner k f sa sc ex ey e

@@ -40,14 +40,15 @@ use Rattle.rules.proofs.Slopes.{W-none, slope-shear}
 use Rattle.job.specs.declared.Job.{Job}
 use Rattle.job.specs.Stands.{Level, Directed, Stands}
 use Rattle.job.specs.Stands.Stands.{as-north-east, as-dyck, as-delannoy, as-schroder, as-motzkin, as-open, as-fenced}
-use Rattle.grid.specs.Form.{Form, spot}
+use Rattle.grid.specs.Form.{Form, roof, wall, spot}
 use Rattle.grid.specs.Shapes.{Grids, Sound, Sits, stepsAt, endAt, FormOf, Shows, Fits, Shaped, ShapedFor, cornerState, cornerWith, cornerShape, Ranged, Laying, Laid, Gentle, Beyond, Lowered, Chosen}
 use Rattle.grid.specs.Shapes.Shows.{slid, mirrored}
 use Rattle.grid.specs.Shapes.Lowered.{reached, unreached}
 use Rattle.grid.specs.Shapes.Chosen.{sunk, lowered}
 use Rattle.grid.specs.Shapes.Shaped.{worked, over, nothing}
 use Rattle.grid.specs.declared.shape.Shape.{Shape}
-use Rattle.grid.proofs.Lowering.{shows-same, beyond-same, beyond-barren}
+use Rattle.grid.proofs.Walls.{fence-is, wall-none}
+use Rattle.grid.proofs.Lowering.{product, shows-same, beyond-same, beyond-barren}
 
 -- ---- the steps of families 6 and 7
 
@@ -138,11 +139,8 @@ gone k i a c t l =
     let u : T (eqb a 100 && eqb c 0) = rw (le-ltb i k l) at t in
     (eqb→eq a 100 (and-left (eqb a 100) (eqb c 0) u), eqb→eq c 0 (and-right (eqb a 100) (eqb c 0) u))
 
-product : (a b c d : ℕ) → a ≤ c → b ≤ d → c * d ≤ 7040 → a * b ≤ 7040
-product a b c d l h e = le-trans (mul-le-mul l h) e
-
 corner-form : (k : ℕ) (sa sc : List ℕ) (ex ey : ℕ) → length sa ≡ 8 → length sc ≡ 8 → 1 ≤ k → k ≤ 8
-    → ((i : ℕ) → i < 8 → T (ok k i (getD sa i 0) (getD sc i 0))) → ex ≤ 97 → ey ≤ 64 → Form k 0 sa sc 1 ex ey
+    → ((i : ℕ) → i < 8 → T (ok k i (getD sa i 0) (getD sc i 0))) → ex ≤ 97 → ey ≤ 33 → Form k 0 sa sc 1 ex ey
 corner-form k sa sc ex ey la lc some most t lx ly = record {
   eight = la;
   eight-too = lc;
@@ -157,7 +155,7 @@ corner-form k sa sc ex ey la lc some most t lx ly = record {
   f-le = omega arith;
   ex-le = lx;
   ey-le = omega arith;
-  cells = product (ex + 2) (1 + ey + 1) 99 66 (omega arith) (omega arith) (omega arith);
+  cells = product (ex + 2) (1 + ey + 1) 99 35 3712 (omega arith) (omega arith) (omega arith);
 }
   where
     low : (i : ℕ) → i < 8 → Dec (i < k) → getD sc i 0 ≤ 1
@@ -166,13 +164,13 @@ corner-form k sa sc ex ey la lc some most t lx ly = record {
 
 -- the state of a corner's shape says whether n and m are both above 33
 corner-cases : (J : rules.Job) (n m : ℕ) (s : Shape) → s .state ≡ cornerState n m → (33 < n → 33 < m → 2 ^ 64 ≤ countOf J)
-    → (n + m ≤ 97 → FormOf s) → Fits J s → n ≤ 64 → m ≤ 64 → Shaped J s
-corner-cases J n m s e big form fits ln lm = go (decLt 33 n) (decLt 33 m)
+    → s .ey ≤ n → s .ey ≤ m → (n + m ≤ 97 → s .ey ≤ 33 → FormOf s) → Fits J s → n ≤ 64 → m ≤ 64 → Shaped J s
+corner-cases J n m s e big yn ym form fits ln lm = go (decLt 33 n) (decLt 33 m)
   where
     go : Dec (33 < n) → Dec (33 < m) → Shaped J s
     go (yes l) (yes h) = over (e ∙ rw (lt-ltb 33 n l, lt-ltb 33 m h)) (big l h)
-    go (yes l) (no h) = worked (e ∙ rw (lt-ltb 33 n l, le-ltb 33 m (omega arith))) (form (omega arith)) fits
-    go (no l) h = worked (e ∙ rw (le-ltb 33 n (omega arith))) (form (omega arith)) fits
+    go (yes l) (no h) = worked (e ∙ rw (lt-ltb 33 n l, le-ltb 33 m (omega arith))) (form (omega arith) (omega arith)) fits
+    go (no l) h = worked (e ∙ rw (le-ltb 33 n (omega arith))) (form (omega arith) (omega arith)) fits
 
 pub north-east-shaped : (n m : ℕ) → n ≤ 64 → m ≤ 64 → Shaped (north-east n m) (cornerShape n m false)
 unfolding ok countOf
@@ -181,37 +179,36 @@ north-east-shaped n m ln lm = go (decLt n m)
     G : Steps
     G = gridOf (north-east n m)
 
-    with : (s : Shape) → s .state ≡ cornerState n m → s .corner ≡ true → (n + m ≤ 97 → FormOf s) → Shows G (spot (n + m) m) s → Shaped (north-east n m) s
-    with s e c form w =
-        corner-cases (north-east n m) n m s e (λ l h. L-over n m l h) form
+    with : (s : Shape) → s .state ≡ cornerState n m → s .corner ≡ true → s .ey ≤ n → s .ey ≤ m → (n + m ≤ 97 → s .ey ≤ 33 → FormOf s) → Shows G (spot (n + m) m) s → Shaped (north-east n m) s
+    with s e c yn ym form w =
+        corner-cases (north-east n m) n m s e (λ l h. L-over n m l h) yn ym form
         (record { letters = c; end = spot (n + m) m; sits = record { across = refl; up = refl }; shows = w }) ln lm
 
     go : Dec (n < m) → Shaped (north-east n m) (cornerShape n m false)
     go (yes l) =
         let s : Shape = cornerWith n m n 0 1 false in
         rw (lt-ltb n m l)
-        (with s refl refl
-        (λ h. corner-form 2 (s .sa) (s .sc) (n + m) n refl refl (omega arith) (omega arith) (eight (λ i. T (ok 2 i (getD (s .sa) i 0) (getD (s .sc) i 0))) tt tt tt tt tt tt tt tt) h ln)
+        (with s refl refl (omega arith) (omega arith)
+        (λ h k. corner-form 2 (s .sa) (s .sc) (n + m) n refl refl (omega arith) (omega arith) (eight (λ i. T (ok 2 i (getD (s .sa) i 0) (getD (s .sc) i 0))) tt tt tt tt tt tt tt tt) h k)
         (mirrored 1
         (record {
           many = refl;
           right = two (λ i. getD (s .sa) i 0 ≡ G .a i) refl refl;
           up = two (λ i. getD (s .sc) i 0 + G .c i ≡ 1 * G .a i) refl refl;
-          free = refl;
-          free-too = refl;
+          wall = λ x y l. wall-none x y;
         })
         (refl, omega arith)))
     go (no l) =
         let s : Shape = cornerWith n m m 1 0 false in
         rw (le-ltb n m (omega arith))
-        (with s refl refl
-        (λ h. corner-form 2 (s .sa) (s .sc) (n + m) m refl refl (omega arith) (omega arith) (eight (λ i. T (ok 2 i (getD (s .sa) i 0) (getD (s .sc) i 0))) tt tt tt tt tt tt tt tt) h lm)
+        (with s refl refl (omega arith) (omega arith)
+        (λ h k. corner-form 2 (s .sa) (s .sc) (n + m) m refl refl (omega arith) (omega arith) (eight (λ i. T (ok 2 i (getD (s .sa) i 0) (getD (s .sc) i 0))) tt tt tt tt tt tt tt tt) h k)
         (slid 0
         (record {
           many = refl;
           right = two (λ i. getD (s .sa) i 0 ≡ G .a i) refl refl;
           up = two (λ i. getD (s .sc) i 0 + 0 * G .a i ≡ G .c i) refl refl;
-          fence = refl;
+          wall = λ x y. wall-none x y;
         })
         (refl, omega arith)))
 
@@ -222,37 +219,36 @@ delannoy-shaped n m ln lm = go (decLt n m)
     G : Steps
     G = gridOf (delannoy n m)
 
-    with : (s : Shape) → s .state ≡ cornerState n m → s .corner ≡ true → (n + m ≤ 97 → FormOf s) → Shows G (spot (n + m) m) s → Shaped (delannoy n m) s
-    with s e c form w =
-        corner-cases (delannoy n m) n m s e (λ l h. le-trans (L-over n m l h) (D-least n m)) form
+    with : (s : Shape) → s .state ≡ cornerState n m → s .corner ≡ true → s .ey ≤ n → s .ey ≤ m → (n + m ≤ 97 → s .ey ≤ 33 → FormOf s) → Shows G (spot (n + m) m) s → Shaped (delannoy n m) s
+    with s e c yn ym form w =
+        corner-cases (delannoy n m) n m s e (λ l h. le-trans (L-over n m l h) (D-least n m)) yn ym form
         (record { letters = c; end = spot (n + m) m; sits = record { across = refl; up = refl }; shows = w }) ln lm
 
     go : Dec (n < m) → Shaped (delannoy n m) (cornerShape n m true)
     go (yes l) =
         let s : Shape = cornerWith n m n 0 1 true in
         rw (lt-ltb n m l)
-        (with s refl refl
-        (λ h. corner-form 3 (s .sa) (s .sc) (n + m) n refl refl (omega arith) (omega arith) (eight (λ i. T (ok 3 i (getD (s .sa) i 0) (getD (s .sc) i 0))) tt tt tt tt tt tt tt tt) h ln)
+        (with s refl refl (omega arith) (omega arith)
+        (λ h k. corner-form 3 (s .sa) (s .sc) (n + m) n refl refl (omega arith) (omega arith) (eight (λ i. T (ok 3 i (getD (s .sa) i 0) (getD (s .sc) i 0))) tt tt tt tt tt tt tt tt) h k)
         (mirrored 1
         (record {
           many = refl;
           right = three (λ i. getD (s .sa) i 0 ≡ G .a i) refl refl refl;
           up = three (λ i. getD (s .sc) i 0 + G .c i ≡ 1 * G .a i) refl refl refl;
-          free = refl;
-          free-too = refl;
+          wall = λ x y l. wall-none x y;
         })
         (refl, omega arith)))
     go (no l) =
         let s : Shape = cornerWith n m m 1 0 true in
         rw (le-ltb n m (omega arith))
-        (with s refl refl
-        (λ h. corner-form 3 (s .sa) (s .sc) (n + m) m refl refl (omega arith) (omega arith) (eight (λ i. T (ok 3 i (getD (s .sa) i 0) (getD (s .sc) i 0))) tt tt tt tt tt tt tt tt) h lm)
+        (with s refl refl (omega arith) (omega arith)
+        (λ h k. corner-form 3 (s .sa) (s .sc) (n + m) m refl refl (omega arith) (omega arith) (eight (λ i. T (ok 3 i (getD (s .sa) i 0) (getD (s .sc) i 0))) tt tt tt tt tt tt tt tt) h k)
         (slid 0
         (record {
           many = refl;
           right = three (λ i. getD (s .sa) i 0 ≡ G .a i) refl refl refl;
           up = three (λ i. getD (s .sc) i 0 + 0 * G .a i ≡ G .c i) refl refl refl;
-          fence = refl;
+          wall = λ x y. wall-none x y;
         })
         (refl, omega arith)))
 
@@ -285,41 +281,27 @@ module _ (j : Job) (f : ℕ) (s : Shape) (w : Laid j f s) where
       go false e = laid-state false e
 
   module _ (g : Ranged j) (l : f ≤ 3) where
-    laid-low : (i : ℕ) → i < 8 → Dec (i < j .k) → getD (s .sc) i 0 ≤ 12
-    laid-low i l (yes h) = omega (arith, w .steps .up i h, g .a-most i h, g .b-most i h)
-    laid-low i l (no h) = omega (arith, w .steps .flat i (omega arith) l)
-
-    laid-form : FormOf s
-    laid-form = record {
-      eight = w .steps .eight;
-      eight-too = w .steps .eight-too;
-      some = omega (arith, w .k-is, g .some);
-      most = omega (arith, w .k-is, g .few);
-      ahead = λ i l. omega (arith, w .steps .right i (omega (arith, w .k-is)), g .a-least i (omega (arith, w .k-is)));
-      near = λ i l. omega (arith, w .steps .right i (omega (arith, w .k-is)), g .a-most i (omega (arith, w .k-is)));
-      away = λ i l h. w .steps .away i (omega (arith, w .k-is)) h;
-      flat = λ i l h. w .steps .flat i (omega (arith, w .k-is)) h;
-      low = λ i l. omega (arith, w .top-is, laid-low i l (decLt i (j .k)));
-      top-le = omega (arith, w .top-is);
-      f-le = omega (arith, w .f-is);
-      ex-le = omega (arith, w .ex-is, g .n-most);
-      ey-le = omega (arith, w .ey-is, g .n-most, g .m-most);
-      cells = product (s .ex + 2) (s .top + s .ey + 1) 34 205 (omega (arith, w .ex-is, g .n-most)) (omega (arith, w .top-is, w .ey-is, g .n-most, g .m-most)) (omega arith);
-    }
-
     pub laid-gentle : s .state ≡ 0 → Gentle s
     laid-gentle q = record {
-      form = laid-form;
       state-is = q;
       top-is = w .top-is;
+      fence = omega (arith, w .f-is);
+      wide = omega (arith, w .ex-is, g .n-most);
+      some = omega (arith, w .k-is, g .some);
+      eight = w .steps .eight;
+      away = λ i l h. w .steps .away i (omega (arith, w .k-is)) h;
       lifted = record {
-        few = laid-form .most;
-        ahead = laid-form .ahead;
-        near = laid-form .near;
+        few = omega (arith, w .k-is, g .few);
+        ahead = λ i l. omega (arith, w .steps .right i (omega (arith, w .k-is)), g .a-least i (omega (arith, w .k-is)));
+        near = λ i l. omega (arith, w .steps .right i (omega (arith, w .k-is)), g .a-most i (omega (arith, w .k-is)));
         least = λ i h. let n : i < j .k = omega (arith, w .k-is) in omega (arith, w .steps .right i n, w .steps .up i n, g .a-least i n, g .b-least i n);
         most = λ i h. let n : i < j .k = omega (arith, w .k-is) in omega (arith, w .steps .right i n, w .steps .up i n, g .b-most i n);
       };
     }
+
+slope-below : (fenced : Bool) → pick fenced 3 0 < roof
+slope-below true = omega arith
+slope-below false = omega arith
 
 steep : (z : ℤ) (p : ℕ) → Is z p 128 → 125 ≤ p → T (leℤ (negsuc 2) z)
 steep (pos a) p e l = tt
@@ -374,7 +356,9 @@ module _ (j : Job) (fenced : Bool) (m : ℤ) (pairs : List Pair) (d : Directed j
       many = w .k-is ∙ sym (d .many);
       right = λ i h. w .steps .right i (omega (arith, w .k-is)) ∙ d .a-is i (omega (arith, w .k-is));
       up = λ i h. omega (arith, w .steps .up i (omega (arith, w .k-is)), lifted i (omega (arith, w .k-is)));
-      fence = omega (arith, w .f-is);
+      wall = λ x y.
+          let z : y ≡ y + 0 * x = omega arith in
+          ap (λ (n : ℕ). wall n x y) (w .f-is ∙ e) ∙ fence-is (pick fenced 3 0) x y (slope-below fenced) ∙ ap (leb (pick fenced 3 0 * x)) z;
     }
 
     sits : 128 ≤ j .m + 3 * j .n → Sits J (endAt s)

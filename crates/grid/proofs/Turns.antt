@@ -24,7 +24,7 @@ module _ {few : Bool} {k f : ℕ} {sa sc off : List ℕ} {hi m ex ey : ℕ} {val
   none-gone : (i : ℕ) → 8 ≤ i → i < 8 → ex < getD sa i 0
   none-gone i p q = absurd (omega arith)
 
-  module _ {from to : ℕ} (fr : From f hi ex ey x from) (up : To hi ey x to) where
+  module _ {from to : ℕ} (fr : From f hi ex ey x from) (up : To f hi ey x to) where
     pub step-empty : to ≤ from → After k f sa sc hi m ex ey val x true
     step-empty l = record {
       table = empty-table (b .ready .plan) (b .ready .offs) val (b .table) (b .start) (b .end) from to fr up l;

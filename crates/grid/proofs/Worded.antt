@@ -20,7 +20,7 @@ use Rattle.howmany.specs.Choose.{pick}
 use Rattle.howmany.specs.Sum.{sum}
 use Rattle.backward.specs.Reader.{Reader, Lawful, valid, count, rank, unrank}
 use Rattle.backward.specs.Walk.{enter}
-use Rattle.backward.specs.Grid.{Spot, Steps, grid, way, paths}
+use Rattle.backward.specs.Grid.{Spot, Steps, grid, way, Onward, paths}
 use Rattle.backward.proofs.Backward.{letter, rest, unrank-built}
 use Rattle.backward.proofs.Grids.{grid-lawful}
 use Rattle.backward.proofs.Carried.{valid-carried, count-carried, rank-carried, unrank-carried}
@@ -42,6 +42,7 @@ use Rattle.letters.specs.Letters.{placeOf, glyphOf}
 use Rattle.grid.specs.Edges as edges
 use Rattle.grid.specs.Shapes.{Grids, isCorner, Sits, stepsAt, endAt, Fits}
 use Rattle.grid.specs.declared.shape.Shape.{Shape}
+use Rattle.grid.proofs.Laws.{onward}
 use Rattle.grid.proofs.Grounds.{end-count, Walked, walked}
 
 data Agree (k x y : ℕ) : Type 0 where
@@ -142,13 +143,13 @@ glyphs (directed f n m p) g r i l = omega (arith, digit-at one p i l .letter)
 
 -- ---- a job's edges by its own grid
 
-onward-of : (J : rules.Job) → Grids J → InRange J → (i : ℕ) → i < gridOf J .k → 0 < gridOf J .a i
-onward-of (north-east n m) g r i l = north-east-shear n m .onward i l
-onward-of (dyck n) g r i l = absurd g
-onward-of (delannoy n m) g r i l = delannoy-shear n m .onward i l
-onward-of (schroder n) g r i l = absurd g
-onward-of (motzkin n) g r i l = absurd g
-onward-of (directed f n m p) g r i l = r .on i l
+onward-of : (J : rules.Job) → Grids J → InRange J → Onward (gridOf J)
+onward-of (north-east n m) g r = north-east-shear n m .onward
+onward-of (dyck n) g r = absurd g
+onward-of (delannoy n m) g r = delannoy-shear n m .onward
+onward-of (schroder n) g r = absurd g
+onward-of (motzkin n) g r = absurd g
+onward-of (directed f n m p) g r = slope-shear f p r n m .onward
 
 walks-by : (J : rules.Job) → InRange J → (q : Spot) → Sits J q → (e : List ℕ)
     → walks J origin e ≡ valid (grid (gridOf J)) (reverse (map (λ b. place b (stepsOf J)) e)) (enter (grid (gridOf J)) (way (gridOf J)) q)
@@ -205,7 +206,7 @@ module _ (J : rules.Job) (s : Shape) (g : Grids J) (r : InRange J) (f : Fits J s
   job-lawful = grid-lawful (gridOf J) (onward-of J g r)
 
   shape-lawful : Lawful (grid (stepsAt s))
-  shape-lawful = grid-lawful (stepsAt s) (λ i l. rw (w .right i l) (onward-of J g r i (omega (arith, w .many))))
+  shape-lawful = grid-lawful (stepsAt s) (onward (s .k) (s .f) (s .sa) (s .sc) (λ i l. rw (w .right i l) (onward-of J g r .ahead i (omega (arith, w .many)))))
 
   -- the code's word of an edge and the job's
   word-valid : (e : List ℕ) → valid (grid G) (reverse (map (placeOf (isCorner J)) e)) ends ≡ valid (grid G) (reverse (map (λ b. place b (stepsOf J)) e)) ends

@@ -1,7 +1,7 @@
 -- Edges over the grid, from their end backwards: whether one is valid, its number, and the edge of a number. Cited from the
 -- backward-order theorem, whose reader is `grid` and whose words are `wordOf`.
 --
---   endOf        the end (x, y), if the fence allows it
+--   endOf        the end (x, y), if the wall allows it
 --   isEdge       whether the bytes e are an edge to (x, y)
 --   numberOf     its number (001, algorithm 7)
 --   edgeOf       the edge of the number r, as bytes (001, algorithm 8)

@@ -58,7 +58,7 @@ pub record Turn (few : Bool) (k f : ℕ) (sa sc off : List ℕ) (hi m ex ey : �
 pub record Slow (few : Bool) (k f : ℕ) (sa sc off : List ℕ) (hi m ex ey : ℕ) (val ov : List ℕ) (x from to : ℕ) : Type 0 where
   pub turn : Turn few k f sa sc off hi m ex ey val ov x
   pub fr : From f hi ex ey x from
-  pub up : To hi ey x to
+  pub up : To f hi ey x to
   pub lt : from < to
 
 pub record Part (k f : ℕ) (sa sc : List ℕ) (m ey x from : ℕ) (val₀ ov₀ val ov : List ℕ) (y : ℕ) : Type 0 where

@@ -5,11 +5,13 @@
 --   Height t y l r            r is how far y is from l
 --   Bounds t d k sa sc        the slope d is no steeper than any of the first k steps; where t, none is steeper than d
 --   Heights t d sa sc up i    the first i steps' heights from the slope d are laid in up, and the others are 0
+--   Turned t f d r            the wall r is the wall f in the heights from the slope d
 use mathlib.Core.Path.{_≡_}
 use mathlib.Core.Bool.{Bool, true, false}
 use mathlib.Core.List.{List}
-use Prim.Native.Nat.{ℕ, _+_, _*_, _≤_, _<_}
+use Prim.Native.Nat.{ℕ, _+_, _*_, _-_, _≤_, _<_}
 use lib.ListN.{length, getD}
+use Rattle.grid.specs.Form.{wall}
 
 pub record Lifted (k : ℕ) (sa sc : List ℕ) : Type 0 where
   pub few : k ≤ 8
@@ -34,3 +36,7 @@ pub record Heights (t : Bool) (d : ℕ) (sa sc up : List ℕ) (i : ℕ) : Type 0
   pub eight : length up ≡ 8
   pub each : (j : ℕ) → j < i → Height t (getD sc j 0) (d * getD sa j 0) (getD up j 0)
   pub flat : (j : ℕ) → i ≤ j → j < 8 → getD up j 0 ≡ 0
+
+abbrev pub Turned : Bool → ℕ → ℕ → ℕ → Type 0
+Turned true f d r = (x y : ℕ) → y ≤ d * x → wall r x y ≡ wall f x (d * x - y)
+Turned false f d r = (x y : ℕ) → wall r x y ≡ wall f x (y + d * x)

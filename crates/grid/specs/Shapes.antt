@@ -38,7 +38,7 @@ use Rattle.rules.specs.Shear.{gridOf, Corner, Slope}
 use Rattle.job.specs.declared.Job.{Job}
 use Rattle.job.specs.Stands.{Stands}
 use Rattle.grid.specs.Form.{Form, stepsIn, spot}
-use Rattle.grid.specs.Heights.{Lifted, Beside, Bounds}
+use Rattle.grid.specs.Heights.{Lifted, Beside, Height, Bounds}
 use Rattle.grid.specs.declared.shape.Shape.{Shape}
 
 abbrev pub Grids : rules.Job → Type 0
@@ -158,9 +158,13 @@ pub record Laid (j : Job) (f : ℕ) (s : Shape) : Type 0 where
   pub steps : Laying (j .a) (j .b) (s .sa) (s .sc) (j .k)
 
 pub record Gentle (s : Shape) : Type 0 where
-  pub form : FormOf s
   pub state-is : s .state ≡ 0
   pub top-is : s .top ≡ 12
+  pub fence : s .f ≤ 3
+  pub wide : s .ex ≤ 32
+  pub some : 1 ≤ s .k
+  pub eight : length (s .sa) ≡ 8
+  pub away : (i : ℕ) → s .k ≤ i → i < 8 → getD (s .sa) i 0 ≡ 100
   pub lifted : Lifted (s .k) (s .sa) (s .sc)
 
 pub data Beyond (G : Steps) (q : Spot) : Type 0 where
@@ -171,13 +175,13 @@ pub data Lowered (s r : Shape) : Type 0 where
   reached : r .state ≡ 0 → r .corner ≡ s .corner → FormOf r → Shows (stepsAt s) (endAt s) r → Lowered s r
   unreached : r .state ≡ 2 → Beyond (stepsAt s) (endAt s) → Lowered s r
 
--- a mirrored shape has no fence, and its end is no higher than before
+-- the fence is no steeper than the slope of a mirror, and the end gets no higher than the middle of a column of 192
 pub record View (t : Bool) (d : ℕ) (s : Shape) : Type 0 where
   pub gentle : Gentle s
   pub bounds : Bounds t d (s .k) (s .sa) (s .sc)
   pub end : Beside t (s .ey) (d * s .ex)
-  pub free : T t → s .f ≡ 0
-  pub near : T t → d * s .ex ≤ s .ey + s .ey
+  pub slope : T t → s .f ≤ d
+  pub near : (r : ℕ) → Height t (s .ey) (d * s .ex) r → r ≤ 96
 
 -- no height of the job's own grid is below 0, so nothing leads to an end that is
 pub data Chosen (j : Job) (f : ℕ) (r : Shape) : Type 0 where

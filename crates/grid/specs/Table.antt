@@ -7,6 +7,7 @@
 --   Sizes                bounds of the numbers, so that no place of a cell is above 64 bits
 --   Ready, Prepared      all of these, for a table of values and for a table of that size
 --   Ends hi ex ey u y    from height y of column u the end's height can still be reached
+--   Fence, Roof          below a fence, and above a roof, no walk may be; Roof: or above the height y
 --   From, To             where the heights of column x that matter begin, and end
 --   Cells T at           the columns before x are right, as far as they can matter; at is what a cell says, T how it says a number
 --   Sheet T at           the same, and every cell of the columns from x on says 0
@@ -17,8 +18,9 @@ use mathlib.Core.Path.{_≡_}
 use mathlib.Core.Bool.{Bool, true}
 use mathlib.Core.List.{List}
 use Prim.Native.Nat.{ℕ, _+_, _-_, _*_, _≤_, _<_}
+use lib.Dec.{T}
 use lib.ListN.{length, getD}
-use Rattle.grid.specs.Form.{W}
+use Rattle.grid.specs.Form.{roof, wall, W}
 use Rattle.grid.specs.Cells.{capOf, cellAt, strideOf, place}
 
 pub record Steepest (sa sc : List ℕ) (ex hi n : ℕ) : Type 0 where
@@ -48,7 +50,7 @@ pub record Sizes (f hi m ex ey : ℕ) : Type 0 where
   pub m-le : m ≤ 1000
   pub ex-le : ex ≤ 97
   pub ey-le : ey ≤ 1000
-  pub cells : (ex + 2) * strideOf m ey ≤ 7040
+  pub cells : (ex + 2) * strideOf m ey ≤ 3712
 
 pub record Prepared (few : Bool) (k f : ℕ) (sa sc off : List ℕ) (hi m ex ey size : ℕ) : Type 0 where
   pub sizes : Sizes f hi m ex ey
@@ -63,14 +65,24 @@ Ready few k f sa sc off hi m ex ey val = Prepared few k f sa sc off hi m ex ey (
 abbrev pub Ends : ℕ → ℕ → ℕ → ℕ → ℕ → Type 0
 Ends hi ex ey u y = (y ≤ ey) × (6 * ey ≤ 6 * y + hi * (ex - u))
 
-pub record From (f hi ex ey x r : ℕ) : Type 0 where
-  pub inside : f * x ≤ r
-  pub ends : 6 * ey ≤ 6 * r + hi * (ex - x)
-  pub least : (y : ℕ) → y < r → 6 * ey ≤ 6 * y + hi * (ex - x) → y < f * x
+pub record Fence (f x r : ℕ) : Type 0 where
+  pub most : r ≤ f * x
+  pub inside : f < roof → f * x ≤ r
+  pub least : (y : ℕ) → y < r → T (wall f x y) → ⊥
 
-pub record To (hi ey x r : ℕ) : Type 0 where
+pub record From (f hi ex ey x r : ℕ) : Type 0 where
+  pub inside : f < roof → f * x ≤ r
+  pub ends : 6 * ey ≤ 6 * r + hi * (ex - x)
+  pub least : (y : ℕ) → y < r → 6 * ey ≤ 6 * y + hi * (ex - x) → T (wall f x y) → ⊥
+
+pub record Roof (f x y r : ℕ) : Type 0 where
+  pub inside : roof ≤ f → r ≤ (f - roof) * x
+  pub beyond : (v : ℕ) → r < v → T (wall f x v) → y < v
+
+pub record To (f hi ey x r : ℕ) : Type 0 where
   pub under : r ≤ ey + 1
-  pub beyond : (y : ℕ) → r ≤ y → y ≤ ey → hi * x < 6 * y
+  pub inside : roof ≤ f → (y : ℕ) → y < r → y ≤ (f - roof) * x
+  pub beyond : (y : ℕ) → r ≤ y → y ≤ ey → T (wall f x y) → hi * x < 6 * y
 
 pub record Cells {A : Type 0} (T : ℕ → A) (at : ℕ → A) (k f : ℕ) (sa sc : List ℕ) (hi m ex ey x : ℕ) : Type 0 where
   pub right : (u y : ℕ) → u < x → Ends hi ex ey u y → at (place m ey u y) ≡ T (W k f sa sc u y)

@@ -1,6 +1,30 @@
-// The heights of a column that matter: above the fence, and such that the end can still be reached.
+// The heights of a column that matter: behind the wall, and such that the end can still be reached.
+ghost use mathlib.Core.Path.{_≡_};
 ghost use Prim.Native.Nat.{_≤_};
-ghost use Rattle.grid.specs.Table.{From, To};
+ghost use Rattle.grid.specs.Form.{wall};
+ghost use Rattle.grid.specs.Table.{Fence, From, Roof, To};
+
+// The wall ROOF + g is a roof of slope g, which a walk stays below; a lesser f is a fence of slope f, which it stays above, and 0 is no wall.
+pub(crate) const ROOF: usize = 16;
+
+// Whether the wall f lets a walk be at column x, height y.
+pub(crate) fn stays(f: usize, x: usize, y: usize) -> bool
+    requires { ⌜ (f ≤ 100) × (x ≤ 97) ⌝ }
+    ensures { λ r. ⌜ r ≡ wall f x y ⌝ }
+{
+    if f < ROOF {
+        return f * x <= y;
+    }
+    y <= (f - ROOF) * x
+}
+
+// The lowest height of column x that a fence lets be.
+fn fence_at(f: usize, x: usize) -> usize
+    requires { ⌜ (f ≤ 100) × (x ≤ 97) ⌝ }
+    ensures { λ r. ⌜ Fence f x r ⌝ }
+{
+    if f < ROOF { f * x } else { 0 }
+}
 
 // The lowest height of column x that matters.
 pub(crate) fn from_at(f: usize, hi: usize, ex: usize, ey: usize, x: usize) -> usize
@@ -8,18 +32,30 @@ pub(crate) fn from_at(f: usize, hi: usize, ex: usize, ey: usize, x: usize) -> us
     ensures { λ r. ⌜ From f hi ex ey x r ⌝ }
 {
     let reach = hi * (ex - x) / 6;
-    let fence = f * x;
+    let fence = fence_at(f, x);
     if ey <= fence + reach {
         return fence;
     }
     ey - reach
 }
 
-// Past the highest height of column x that matters.
-pub(crate) fn to_at(hi: usize, ey: usize, x: usize) -> usize
-    requires { ⌜ (hi ≤ 1000) × (ey ≤ 1000) × (x ≤ 97) ⌝ }
-    ensures { λ r. ⌜ To hi ey x r ⌝ }
+// The height y, or that of a roof at column x where it is lower.
+fn roof_at(f: usize, x: usize, y: usize) -> usize
+    requires { ⌜ (f ≤ 100) × (x ≤ 97) ⌝ }
+    ensures { λ r. ⌜ Roof f x y r ⌝ }
 {
-    let reach = hi * x / 6;
+    if f < ROOF {
+        return y;
+    }
+    let roof = (f - ROOF) * x;
+    if roof < y { roof } else { y }
+}
+
+// Past the highest height of column x that matters.
+pub(crate) fn to_at(f: usize, hi: usize, ey: usize, x: usize) -> usize
+    requires { ⌜ (f ≤ 100) × (hi ≤ 1000) × (ey ≤ 1000) × (x ≤ 97) ⌝ }
+    ensures { λ r. ⌜ To f hi ey x r ⌝ }
+{
+    let reach = roof_at(f, x, hi * x / 6);
     if reach < ey { reach + 1 } else { ey + 1 }
 }

@@ -1,4 +1,4 @@
-// The count, in a table of the smallest of five sizes that has room: clearing the largest takes as long as filling a small one.
+// The count, in a table of the smallest of four sizes that has room: clearing the largest takes as long as filling a small one.
 ghost use mathlib.Core.Path.{_≡_};
 ghost use Rattle.grid.specs.Form.{Form, W};
 ghost use Rattle.grid.specs.Cells.{capOf};
@@ -86,25 +86,6 @@ fn count_3712(
     fill(&mut val, sa, sc, off, few, k, f, hi, m, ex, ey)
 }
 
-fn count_7040(
-    sa: &[usize; 8],
-    sc: &[usize; 8],
-    off: &[usize; 8],
-    few: bool,
-    k: usize,
-    f: usize,
-    hi: usize,
-    m: usize,
-    ex: usize,
-    ey: usize,
-) -> Answer
-    requires { ⌜ Prepared few k f (now sa) (now sc) (now off) hi m ex ey 7040 ⌝ }
-    ensures { λ r. ⌜ r ≡ capOf (W k f (now (sa .entry)) (now (sc .entry)) ex ey) ⌝ }
-{
-    let mut val = [0u64; 7040];
-    fill(&mut val, sa, sc, off, few, k, f, hi, m, ex, ey)
-}
-
 // How many walks end at column ex, height ey.
 pub(crate) fn count(
     sa: &[usize; 8],
@@ -133,8 +114,5 @@ pub(crate) fn count(
     if cells <= 2496 {
         return count_2496(sa, sc, &off, few, k, f, hi, m, ex, ey);
     }
-    if cells <= 3712 {
-        return count_3712(sa, sc, &off, few, k, f, hi, m, ex, ey);
-    }
-    count_7040(sa, sc, &off, few, k, f, hi, m, ex, ey)
+    count_3712(sa, sc, &off, few, k, f, hi, m, ex, ey)
 }

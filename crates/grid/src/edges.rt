@@ -7,6 +7,7 @@ ghost use Rattle.grid.specs.Form.{Form, via};
 ghost use Rattle.letters.specs.Letters.{glyphOf};
 ghost use Rattle.grid.specs.Edges.{isEdge, numberOf, edgeOf, Reads, Ranking, Sought, Spelling};
 use crate::column::source;
+use crate::cone::stays;
 use job::Step;
 use letters::place_of;
 
@@ -48,7 +49,7 @@ pub(crate) fn valid(
     while 0 < i {
         i -= 1;
         let l = place_of(corner, e[i]);
-        if y < f * x {
+        if !stays(f, x, y) {
             return false;
         }
         if k <= l {

@@ -1,8 +1,10 @@
 // Steps in lower heights: how far they lie above the slope of the least steep step, or below that of the steepest.
 ghost use mathlib.Core.Path.{_≡_};
 ghost use mathlib.Core.Bool.{true, false};
-ghost use Prim.Native.Nat.{_+_, _-_, _*_, _≤_};
-ghost use Rattle.grid.specs.Heights.{Lifted, Beside, Height, Bounds, Heights};
+ghost use Prim.Native.Nat.{_+_, _*_, _≤_};
+ghost use lib.Dec.{T};
+ghost use Rattle.grid.specs.Heights.{Lifted, Beside, Height, Bounds, Heights, Turned};
+use crate::cone::ROOF;
 
 fn lesser(a: usize, b: usize) -> usize
     ensures { λ r. ⌜ (r ≤ a) × (r ≤ b) ⌝ }
@@ -59,12 +61,12 @@ pub(crate) fn lowest(sa: &[usize; 8], sc: &[usize; 8], k: usize) -> usize
     d
 }
 
-// The highest, rounded up.
-pub(crate) fn highest(sa: &[usize; 8], sc: &[usize; 8], k: usize) -> usize
-    requires { ⌜ Lifted k (now sa) (now sc) ⌝ }
-    ensures { λ r. ⌜ Bounds true r k (now (sa .entry)) (now (sc .entry)) ⌝ }
+// The highest, rounded up; the fence's slope f where that is higher.
+pub(crate) fn highest(sa: &[usize; 8], sc: &[usize; 8], k: usize, f: usize) -> usize
+    requires { ⌜ Lifted k (now sa) (now sc) × (f ≤ 3) ⌝ }
+    ensures { λ r. ⌜ Bounds true r k (now (sa .entry)) (now (sc .entry)) × (f ≤ r) ⌝ }
 {
-    let mut d: usize = 0;
+    let mut d = f;
     let mut i = 0;
     while i < k {
         d = steeper(d, sa[i], sc[i]);
@@ -105,9 +107,16 @@ pub(crate) fn heights(
     up
 }
 
-// The slope of the fence from the slope d; a fence below that is none.
-pub(crate) fn fence(f: usize, d: usize) -> usize
-    ensures { λ r. ⌜ r ≡ f - d ⌝ }
+// The fence of slope f seen from the slope d: one that is below is none, and a mirrored one is a roof.
+pub(crate) fn wall(mirrored: bool, f: usize, d: usize) -> usize
+    requires { ⌜ (f ≤ 3) × (d ≤ 6) × (T mirrored → f ≤ d) ⌝ }
+    ensures { λ r. ⌜ (r ≤ 22) × Turned mirrored f d r ⌝ }
 {
+    if f == 0 {
+        return 0;
+    }
+    if mirrored {
+        return ROOF + (d - f);
+    }
     if f < d { 0 } else { f - d }
 }

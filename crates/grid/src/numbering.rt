@@ -192,44 +192,7 @@ fn number_3712(
     )
 }
 
-fn number_7040(
-    sa: &[usize; 8],
-    sc: &[usize; 8],
-    off: &[usize; 8],
-    few: bool,
-    k: usize,
-    f: usize,
-    top: usize,
-    hi: usize,
-    m: usize,
-    ex: usize,
-    ey: usize,
-    corner: bool,
-    edge: &[u8],
-) -> Numbered
-    requires { ⌜ Prepared few k f (now sa) (now sc) (now off) hi m ex ey 7040 × Form k f (now sa) (now sc) top ex ey ⌝ }
-    ensures { λ r. ⌜ numberSays r ≡ reply (tableNumber corner k f (now (sa .entry)) (now (sc .entry)) ex ey (now (edge .entry))) ⌝ }
-{
-    let mut val = [0u64; 7040];
-    number_in(
-        &mut val,
-        sa,
-        sc,
-        off,
-        few,
-        k,
-        f,
-        top,
-        hi,
-        m,
-        ex,
-        ey,
-        corner,
-        edge,
-    )
-}
-
-// The number of the edge, in a table of the smallest of five sizes that has room.
+// The number of the edge, in a table of the smallest of four sizes that has room.
 pub(crate) fn number(
     sa: &[usize; 8],
     sc: &[usize; 8],
@@ -259,8 +222,5 @@ pub(crate) fn number(
     if cells <= 2496 {
         return number_2496(sa, sc, &off, few, k, f, top, hi, m, ex, ey, corner, edge);
     }
-    if cells <= 3712 {
-        return number_3712(sa, sc, &off, few, k, f, top, hi, m, ex, ey, corner, edge);
-    }
-    number_7040(sa, sc, &off, few, k, f, top, hi, m, ex, ey, corner, edge)
+    number_3712(sa, sc, &off, few, k, f, top, hi, m, ex, ey, corner, edge)
 }

@@ -4,14 +4,14 @@ ghost use mathlib.Core.Path.{_≡_};
 ghost use mathlib.Core.Bool.{true, false};
 ghost use Prim.Native.Nat.{_≤_, _<_, _+_, _*_};
 ghost use Rattle.grid.specs.Shapes.{cornerState, cornerWith, cornerShape, Laid, Sound, Ranged, ShapedFor, Gentle, Lowered, View, Chosen};
-use crate::heights::fence;
 use crate::heights::height;
 use crate::heights::heights;
 use crate::heights::highest;
 use crate::heights::lowest;
+use crate::heights::wall;
 use job::Job;
 
-// What the table is filled for. State 0: steps and an end; 1: the count needs more than 64 bits; 2: nothing leads to the end.
+// What the table is filled for; f is its wall. State 0: steps and an end; 1: the count needs more than 64 bits; 2: nothing leads to the end.
 pub(crate) struct Shape {
     pub state: u8,
     pub corner: bool,
@@ -149,13 +149,13 @@ fn seen(mut s: Shape, mirrored: bool, d: usize) -> Shape
     let k = s.k;
     let level = d * s.ex;
     let up = heights(mirrored, d, &sa, &sc, k);
-    s.f = fence(s.f, d);
+    s.f = wall(mirrored, s.f, d);
     s.ey = height(mirrored, s.ey, level);
     s.sc = up;
     s
 }
 
-// The shape s with its end as low as it can be: above the least steep step, or below the steepest where there is no fence.
+// The shape s with its end as low as it can be: above the least steep step, or below the steepest.
 fn lowered(s: Shape) -> Shape
     requires { ⌜ Gentle s ⌝ }
     ensures { λ r. ⌜ Lowered s r ⌝ }
@@ -163,10 +163,9 @@ fn lowered(s: Shape) -> Shape
     let sa = s.sa;
     let sc = s.sc;
     let k = s.k;
-    let f = s.f;
     let y = s.ey;
     let low = lowest(&sa, &sc, k);
-    let high = highest(&sa, &sc, k);
+    let high = highest(&sa, &sc, k, s.f);
     let floor = low * s.ex;
     let roof = high * s.ex;
     if y < floor {
@@ -174,9 +173,6 @@ fn lowered(s: Shape) -> Shape
     }
     if roof < y {
         return unreached(s);
-    }
-    if 0 < f {
-        return seen(s, false, low);
     }
     if roof - y < y - floor {
         return seen(s, true, high);

@@ -309,46 +309,7 @@ fn spell_3712(
     )
 }
 
-fn spell_7040(
-    sa: &[usize; 8],
-    sc: &[usize; 8],
-    off: &[usize; 8],
-    few: bool,
-    k: usize,
-    f: usize,
-    hi: usize,
-    m: usize,
-    ex: usize,
-    ey: usize,
-    corner: bool,
-    numbers: &[u64],
-    steps: &mut [u8],
-    ends: &mut [usize],
-) -> Built
-    requires { ⌜ Prepared few k f (now sa) (now sc) (now off) hi m ex ey 7040 × Room (length (now numbers)) (length (now steps)) (length (now ends)) ⌝ }
-    ensures { λ r. ⌜ LinedAs (lined (edgesFor corner k f (now (sa .entry)) (now (sc .entry)) ex ey (now (numbers .entry))) (now (steps .entry)) (now (ends .entry))) r (now (steps .exit)) (now (ends .exit)) ⌝ }
-{
-    let mut val = [0u64; 7040];
-    spell_in(
-        &mut val,
-        sa,
-        sc,
-        off,
-        few,
-        k,
-        f,
-        hi,
-        m,
-        ex,
-        ey,
-        corner,
-        numbers,
-        steps,
-        ends,
-    )
-}
-
-// The edges, over a table of the smallest of five sizes that has room.
+// The edges, over a table of the smallest of four sizes that has room.
 pub(crate) fn spell_edges(
     sa: &[usize; 8],
     sc: &[usize; 8],
@@ -425,25 +386,7 @@ pub(crate) fn spell_edges(
             ends,
         );
     }
-    if cells <= 3712 {
-        return spell_3712(
-            sa,
-            sc,
-            &off,
-            few,
-            k,
-            f,
-            hi,
-            m,
-            ex,
-            ey,
-            corner,
-            numbers,
-            steps,
-            ends,
-        );
-    }
-    spell_7040(
+    spell_3712(
         sa,
         sc,
         &off,

@@ -33,7 +33,7 @@ fn step(
     ensures { λ r. ⌜ After k f (now (sa .entry)) (now (sc .entry)) hi m ex ey (now (val .exit)) x r ⌝ }
 {
     let from = from_at(f, hi, ex, ey, x);
-    let to = to_at(hi, ey, x);
+    let to = to_at(f, hi, ey, x);
     if to <= from {
         return true;
     }
@@ -103,7 +103,7 @@ fn turn(
     ensures { λ _. ⌜ Flagged k f (now (sa .entry)) (now (sc .entry)) hi m ex ey (now (val .exit)) (now (ov .exit)) (x + 1) ⌝ }
 {
     let from = from_at(f, hi, ex, ey, x);
-    let to = to_at(hi, ey, x);
+    let to = to_at(f, hi, ey, x);
     if to <= from {
         return;
     }
@@ -157,7 +157,7 @@ fn rest(
     requires { ⌜ Resumed few k f (now sa) (now sc) (now off) hi m ex ey (now val) first ⌝ }
     ensures { λ r. ⌜ Filled k f (now (sa .entry)) (now (sc .entry)) hi m ex ey (now (val .exit)) r ⌝ }
 {
-    let mut ov = [0u8; 7040];
+    let mut ov = [0u8; 3712];
     let mut x = first;
     while x <= ex {
         turn(val, &mut ov, sa, sc, off, few, k, f, hi, m, ex, ey, x);

@@ -47,16 +47,10 @@ returns-3 : tie.Need-returns-3
 returns-3 c = search needs
 
 count-3712-requires : tie.Need-count-3712-requires
-count-3712-requires c κs = prepared (c .before .before .before .before .before .before .before .before .before .pre) (c .before .before .before .before .before .before .before .before .steepest .ensures) (c .before .before .before .before .before .before .before .deepest .ensures) (c .before .before .before .before .before .before .is-few .ensures) (c .before .before .before .before .before .offsets .ensures) 3712 (c .before .if4 .taken)
+count-3712-requires c κs = prepared (c .before .before .before .before .before .before .before .before .pre) (c .before .before .before .before .before .before .before .steepest .ensures) (c .before .before .before .before .before .before .deepest .ensures) (c .before .before .before .before .before .is-few .ensures) (c .before .before .before .before .offsets .ensures) 3712 (let h = cells-le (c .before .before .before .before .before .before .before .before .pre) (c .before .before .before .before .before .before .before .steepest .ensures) (c .before .before .before .before .before .before .deepest .ensures) in omega arith)
 
 returns-4 : tie.Need-returns-4
 returns-4 c = search needs
-
-count-7040-requires : tie.Need-count-7040-requires
-count-7040-requires c κs = prepared (c .before .before .before .before .before .before .before .before .before .pre) (c .before .before .before .before .before .before .before .before .steepest .ensures) (c .before .before .before .before .before .before .before .deepest .ensures) (c .before .before .before .before .before .before .is-few .ensures) (c .before .before .before .before .before .offsets .ensures) 7040 (let h = cells-le (c .before .before .before .before .before .before .before .before .before .pre) (c .before .before .before .before .before .before .before .before .steepest .ensures) (c .before .before .before .before .before .before .before .deepest .ensures) in omega arith)
-
-returns-5 : tie.Need-returns-5
-returns-5 c = search needs
 
 pub count-spec : {M : Type 1} → statement M
 count-spec =
@@ -77,6 +71,4 @@ count-spec =
     count-2496-requires
     returns-3
     count-3712-requires
-    returns-4
-    count-7040-requires
-    returns-5)
+    returns-4)

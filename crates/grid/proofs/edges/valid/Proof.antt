@@ -1,6 +1,9 @@
+use mathlib.Core.Path.{sym, _∙_}
 use native.Mathlib.Omega.{arith}
+use borrow.Author.Tests.{not-true, not-false}
+use Rattle.howmany.proofs.Choices.{holds}
 use borrow.Author.Needs.{needs}
-use Rattle.grid.proofs.Reading.{Checking, checking-start, checking-more, fence-fits, ends-fit, not-inside, not-letter, not-right, not-up, is-valid}
+use Rattle.grid.proofs.Reading.{Checking, checking-start, checking-more, stays-fits, ends-fit, not-inside, not-letter, not-right, not-up, is-valid}
 use Rattle.grid.proofs.edges.valid.Statement.{statement}
 use Rattle.grid.proofs.edges.valid.Tie as tie
 
@@ -26,49 +29,49 @@ place-of-requires : tie.Need-place-of-requires Inv-loop μ-loop
 place-of-requires c κs =
     search needs
 
-mul-if1 : tie.Need-mul-if1 Inv-loop μ-loop
-mul-if1 c =
-    omega (arith, fence-fits (c .before .before .before .loop .inv))
+stays-requires : tie.Need-stays-requires Inv-loop μ-loop
+stays-requires c κs =
+    stays-fits (c .before .before .before .loop .inv)
 
 returns : tie.Need-returns Inv-loop μ-loop
 returns c =
-    not-inside (c .before .before .before .before .loop .inv) (c .before .before .before .loop-test .taken) (c .before .place-of .ensures) (c .if1 .taken)
+    not-inside (c .before .before .before .before .before .loop .inv) (c .before .before .before .before .loop-test .taken) (c .before .before .place-of .ensures) (sym (c .before .stays .ensures) ∙ not-true _ (c .if1 .taken))
 
 returns-2 : tie.Need-returns-2 Inv-loop μ-loop
 returns-2 c =
-    not-letter (c .before .before .before .before .before .loop .inv) (c .before .before .before .before .loop-test .taken) (c .before .before .place-of .ensures) (c .before .if1 .left) (c .if2 .taken)
+    not-letter (c .before .before .before .before .before .before .loop .inv) (c .before .before .before .before .before .loop-test .taken) (c .before .before .before .place-of .ensures) (holds (sym (c .before .before .stays .ensures) ∙ not-false _ (c .before .if1 .left))) (c .if2 .taken)
 
 mul-if3 : tie.Need-mul-if3 Inv-loop μ-loop
 mul-if3 c =
-    omega (arith, c .if2 .left, c .before .before .before .before .before .loop .inv .form .most)
+    omega (arith, c .if2 .left, c .before .before .before .before .before .before .loop .inv .form .most)
 
 element-copy-out-if3 : tie.Need-element-copy-out-if3 Inv-loop μ-loop
 element-copy-out-if3 c =
-    omega (arith, c .if2 .left, c .before .before .before .before .before .loop .inv .form .most)
+    omega (arith, c .if2 .left, c .before .before .before .before .before .before .loop .inv .form .most)
 
 returns-3 : tie.Need-returns-3 Inv-loop μ-loop
 returns-3 c =
-    not-right (c .before .before .before .before .before .before .before .loop .inv) (c .before .before .before .before .before .before .loop-test .taken) (c .before .before .before .before .place-of .ensures) (c .before .before .before .if1 .left) (c .if3 .taken)
+    not-right (c .before .before .before .before .before .before .before .before .loop .inv) (c .before .before .before .before .before .before .before .loop-test .taken) (c .before .before .before .before .before .place-of .ensures) (holds (sym (c .before .before .before .before .stays .ensures) ∙ not-false _ (c .before .before .before .if1 .left))) (c .if3 .taken)
 
 mul-if4 : tie.Need-mul-if4 Inv-loop μ-loop
 mul-if4 c =
-    omega (arith, c .before .before .if2 .left, c .before .before .before .before .before .before .before .loop .inv .form .most)
+    omega (arith, c .before .before .if2 .left, c .before .before .before .before .before .before .before .before .loop .inv .form .most)
 
 element-copy-out-if4 : tie.Need-element-copy-out-if4 Inv-loop μ-loop
 element-copy-out-if4 c =
-    omega (arith, c .before .before .if2 .left, c .before .before .before .before .before .before .before .loop .inv .form .most)
+    omega (arith, c .before .before .if2 .left, c .before .before .before .before .before .before .before .before .loop .inv .form .most)
 
 returns-4 : tie.Need-returns-4 Inv-loop μ-loop
 returns-4 c =
-    not-up (c .before .before .before .before .before .before .before .before .before .loop .inv) (c .before .before .before .before .before .before .before .before .loop-test .taken) (c .before .before .before .before .before .before .place-of .ensures) (c .before .before .before .before .before .if1 .left) (c .before .before .if3 .left) (c .if4 .taken)
+    not-up (c .before .before .before .before .before .before .before .before .before .before .loop .inv) (c .before .before .before .before .before .before .before .before .before .loop-test .taken) (c .before .before .before .before .before .before .before .place-of .ensures) (holds (sym (c .before .before .before .before .before .before .stays .ensures) ∙ not-false _ (c .before .before .before .before .before .if1 .left))) (c .before .before .if3 .left) (c .if4 .taken)
 
 mul-x : tie.Need-mul-x Inv-loop μ-loop
 mul-x c =
-    omega (arith, c .before .before .before .before .if2 .left, c .before .before .before .before .before .before .before .before .before .loop .inv .form .most)
+    omega (arith, c .before .before .before .before .if2 .left, c .before .before .before .before .before .before .before .before .before .before .loop .inv .form .most)
 
 element-copy-out-x : tie.Need-element-copy-out-x Inv-loop μ-loop
 element-copy-out-x c =
-    omega (arith, c .before .before .before .before .if2 .left, c .before .before .before .before .before .before .before .before .before .loop .inv .form .most)
+    omega (arith, c .before .before .before .before .if2 .left, c .before .before .before .before .before .before .before .before .before .before .loop .inv .form .most)
 
 sub-x : tie.Need-sub-x Inv-loop μ-loop
 sub-x c =
@@ -76,11 +79,11 @@ sub-x c =
 
 mul-y : tie.Need-mul-y Inv-loop μ-loop
 mul-y c =
-    omega (arith, c .before .before .before .before .before .if2 .left, c .before .before .before .before .before .before .before .before .before .before .loop .inv .form .most)
+    omega (arith, c .before .before .before .before .before .if2 .left, c .before .before .before .before .before .before .before .before .before .before .before .loop .inv .form .most)
 
 element-copy-out-y : tie.Need-element-copy-out-y Inv-loop μ-loop
 element-copy-out-y c =
-    omega (arith, c .before .before .before .before .before .if2 .left, c .before .before .before .before .before .before .before .before .before .before .loop .inv .form .most)
+    omega (arith, c .before .before .before .before .before .if2 .left, c .before .before .before .before .before .before .before .before .before .before .before .loop .inv .form .most)
 
 sub-y : tie.Need-sub-y Inv-loop μ-loop
 sub-y c =
@@ -92,7 +95,7 @@ loop-less c =
 
 loop-again : tie.Need-loop-again Inv-loop μ-loop
 loop-again c =
-    checking-more (c .before .before .before .before .before .before .before .before .before .before .before .loop .inv) (c .before .before .before .before .before .before .before .before .before .before .loop-test .taken) (c .before .before .before .before .before .before .before .before .place-of .ensures) (c .before .before .before .before .before .before .before .if1 .left) (c .before .before .before .before .before .before .if2 .left) (c .before .before .before .before .if3 .left) (c .before .before .if4 .left)
+    checking-more (c .before .before .before .before .before .before .before .before .before .before .before .before .loop .inv) (c .before .before .before .before .before .before .before .before .before .before .before .loop-test .taken) (c .before .before .before .before .before .before .before .before .before .place-of .ensures) (holds (sym (c .before .before .before .before .before .before .before .before .stays .ensures) ∙ not-false _ (c .before .before .before .before .before .before .before .if1 .left))) (c .before .before .before .before .before .before .if2 .left) (c .before .before .before .before .if3 .left) (c .before .before .if4 .left)
 
 add-result : tie.Need-add-result Inv-loop μ-loop
 add-result c =
@@ -112,7 +115,7 @@ valid-spec =
     sub-i
     shared-slice-read-place-of
     place-of-requires
-    mul-if1
+    stays-requires
     returns
     returns-2
     mul-if3

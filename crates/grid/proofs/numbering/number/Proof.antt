@@ -48,16 +48,10 @@ returns-3 : tie.Need-returns-3
 returns-3 c = search needs
 
 number-3712-requires : tie.Need-number-3712-requires
-number-3712-requires c κs = (prepared (c .before .before .before .before .before .before .before .before .before .before .pre) (c .before .before .before .before .before .before .before .before .steepest .ensures) (c .before .before .before .before .before .before .before .deepest .ensures) (c .before .before .before .before .before .before .is-few .ensures) (c .before .before .before .before .before .offsets .ensures) 3712 (c .before .if4 .taken), c .before .before .before .before .before .before .before .before .before .before .pre)
+number-3712-requires c κs = (prepared (c .before .before .before .before .before .before .before .before .before .pre) (c .before .before .before .before .before .before .before .steepest .ensures) (c .before .before .before .before .before .before .deepest .ensures) (c .before .before .before .before .before .is-few .ensures) (c .before .before .before .before .offsets .ensures) 3712 (let h = cells-le (c .before .before .before .before .before .before .before .before .before .pre) (c .before .before .before .before .before .before .before .steepest .ensures) (c .before .before .before .before .before .before .deepest .ensures) in omega arith), c .before .before .before .before .before .before .before .before .before .pre)
 
 returns-4 : tie.Need-returns-4
 returns-4 c = search needs
-
-number-7040-requires : tie.Need-number-7040-requires
-number-7040-requires c κs = (prepared (c .before .before .before .before .before .before .before .before .before .before .pre) (c .before .before .before .before .before .before .before .before .steepest .ensures) (c .before .before .before .before .before .before .before .deepest .ensures) (c .before .before .before .before .before .before .is-few .ensures) (c .before .before .before .before .before .offsets .ensures) 7040 (let h = cells-le (c .before .before .before .before .before .before .before .before .before .before .pre) (c .before .before .before .before .before .before .before .before .steepest .ensures) (c .before .before .before .before .before .before .before .deepest .ensures) in omega arith), c .before .before .before .before .before .before .before .before .before .before .pre)
-
-returns-5 : tie.Need-returns-5
-returns-5 c = search needs
 
 pub number-spec : {M : Type 1} → statement M
 number-spec =
@@ -78,6 +72,4 @@ number-spec =
     number-2496-requires
     returns-3
     number-3712-requires
-    returns-4
-    number-7040-requires
-    returns-5)
+    returns-4)

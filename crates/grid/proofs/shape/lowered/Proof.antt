@@ -15,10 +15,10 @@ highest-requires : tie.Need-highest-requires
 highest-requires c κs = search needs
 
 mul-floor : tie.Need-mul-floor
-mul-floor c = omega (arith, mul-le-mul (c .before .before .before .before .lowest .ensures .small) (c .before .before .before .before .before .before .before .before .before .pre .form .ex-le))
+mul-floor c = omega (arith, mul-le-mul (c .before .before .before .before .lowest .ensures .small) (c .before .before .before .before .before .before .before .before .before .pre .wide))
 
 mul-roof : tie.Need-mul-roof
-mul-roof c = omega (arith, mul-le-mul (c .before .before .highest .ensures .small) (c .before .before .before .before .before .before .before .before .before .before .pre .form .ex-le))
+mul-roof c = omega (arith, mul-le-mul (c .before .before .highest .ensures .0 .small) (c .before .before .before .before .before .before .before .before .before .before .pre .wide))
 
 unreached-requires : tie.Need-unreached-requires
 unreached-requires c κs = search needs
@@ -30,25 +30,37 @@ unreached-requires-2 : tie.Need-unreached-requires-2
 unreached-requires-2 c κs = search needs
 
 returns-2 : tie.Need-returns-2
-returns-2 c = unreached (c .unreached2 .ensures) (above _ (c .before .before .before .before .before .highest .ensures .each) (c .before .if2 .taken))
+returns-2 c = unreached (c .unreached2 .ensures) (above _ (c .before .before .before .before .before .highest .ensures .0 .each) (c .before .if2 .taken))
 
 seen-requires : tie.Need-seen-requires
-seen-requires c κs = record { gentle = c .before .before .before .before .before .before .before .before .before .before .before .before .before .pre; bounds = c .before .before .before .before .before .before .before .before .lowest .ensures; end = omega arith; free = λ t. absurd t; near = λ t. absurd t }
+seen-requires c κs =
+    let high = c .before .before .before .before .before .highest .ensures in
+    let g = c .before .before .before .before .before .before .before .before .before .before .before .before .before .pre in
+    record {
+      gentle = g;
+      bounds = high .0;
+      end = omega arith;
+      slope = λ t. high .1;
+      near = λ r e. omega (arith, mul-le-mul (high .0 .small) (g .wide));
+    }
 
 returns-3 : tie.Need-returns-3
 returns-3 c = search needs
 
 seen-requires-2 : tie.Need-seen-requires-2
-seen-requires-2 c κs = record { gentle = c .before .before .before .before .before .before .before .before .before .before .before .before .before .before .pre; bounds = c .before .before .before .before .before .before .highest .ensures; end = omega arith; free = λ t. omega arith; near = λ t. omega arith }
+seen-requires-2 c κs =
+    let high = c .before .before .before .before .before .highest .ensures in
+    let g = c .before .before .before .before .before .before .before .before .before .before .before .before .before .pre in
+    record {
+      gentle = g;
+      bounds = c .before .before .before .before .before .before .before .before .lowest .ensures;
+      end = omega arith;
+      slope = λ t. absurd t;
+      near = λ r e. omega (arith, mul-le-mul (high .0 .small) (g .wide));
+    }
 
 returns-4 : tie.Need-returns-4
 returns-4 c = search needs
-
-seen-requires-3 : tie.Need-seen-requires-3
-seen-requires-3 c κs = record { gentle = c .before .before .before .before .before .before .before .before .before .before .before .before .before .before .pre; bounds = c .before .before .before .before .before .before .before .before .before .lowest .ensures; end = omega arith; free = λ t. absurd t; near = λ t. absurd t }
-
-returns-5 : tie.Need-returns-5
-returns-5 c = search needs
 
 pub lowered-spec : {M : Type 1} → statement M
 lowered-spec =
@@ -65,6 +77,4 @@ lowered-spec =
     seen-requires
     returns-3
     seen-requires-2
-    returns-4
-    seen-requires-3
-    returns-5)
+    returns-4)

@@ -66,7 +66,7 @@ returns-3 : tie.Need-returns-3
 returns-3 c = search needs
 
 spell-3712-requires : tie.Need-spell-3712-requires
-spell-3712-requires c κs = (prepared (c .before .before .before .before .before .before .before .before .before .before .before .before .before .before .pre .0) (c .before .before .before .before .before .before .before .before .before .before .steepest .ensures) (c .before .before .before .before .before .before .before .before .before .deepest .ensures) (c .before .before .before .before .before .before .before .before .is-few .ensures) (c .before .before .before .before .before .before .before .offsets .ensures) 3712 (c .before .before .before .if4 .taken), c .before .before .before .before .before .before .before .before .before .before .before .before .before .before .pre .1)
+spell-3712-requires c κs = (prepared (c .before .before .before .before .before .before .before .before .before .before .before .before .before .pre .0) (c .before .before .before .before .before .before .before .before .before .steepest .ensures) (c .before .before .before .before .before .before .before .before .deepest .ensures) (c .before .before .before .before .before .before .before .is-few .ensures) (c .before .before .before .before .before .before .offsets .ensures) 3712 (let h = (cells-le (c .before .before .before .before .before .before .before .before .before .before .before .before .before .pre .0) (c .before .before .before .before .before .before .before .before .before .steepest .ensures) (c .before .before .before .before .before .before .before .before .deepest .ensures)) in omega arith), c .before .before .before .before .before .before .before .before .before .before .before .before .before .pre .1)
 
 same-length-7 : tie.Need-same-length-7
 same-length-7 c = search needs
@@ -76,18 +76,6 @@ same-length-8 c = search needs
 
 returns-4 : tie.Need-returns-4
 returns-4 c = search needs
-
-spell-7040-requires : tie.Need-spell-7040-requires
-spell-7040-requires c κs = (prepared (c .before .before .before .before .before .before .before .before .before .before .before .before .before .before .pre .0) (c .before .before .before .before .before .before .before .before .before .before .steepest .ensures) (c .before .before .before .before .before .before .before .before .before .deepest .ensures) (c .before .before .before .before .before .before .before .before .is-few .ensures) (c .before .before .before .before .before .before .before .offsets .ensures) 7040 (let h = (cells-le (c .before .before .before .before .before .before .before .before .before .before .before .before .before .before .pre .0) (c .before .before .before .before .before .before .before .before .before .before .steepest .ensures) (c .before .before .before .before .before .before .before .before .before .deepest .ensures)) in omega arith), c .before .before .before .before .before .before .before .before .before .before .before .before .before .before .pre .1)
-
-same-length-9 : tie.Need-same-length-9
-same-length-9 c = search needs
-
-same-length-10 : tie.Need-same-length-10
-same-length-10 c = search needs
-
-returns-5 : tie.Need-returns-5
-returns-5 c = search needs
 
 pub spell-edges-spec : {M : Type 1} → statement M
 spell-edges-spec =
@@ -116,8 +104,4 @@ spell-edges-spec =
     spell-3712-requires
     same-length-7
     same-length-8
-    returns-4
-    spell-7040-requires
-    same-length-9
-    same-length-10
-    returns-5)
+    returns-4)

@@ -10,7 +10,7 @@ use Rattle.grid.proofs.table.rest.Tie as tie
 
 abbrev Inv-loop : tie.InvT-loop
 Inv-loop val₀ sa sc off few k f hi m ex ey first ov₀ x₀ val ov x =
-    (1 ≤ x) × (x ≤ ex + 1) × (length val ≡ length val₀) × (length ov ≡ 7040) × Ready few k f sa sc off hi m ex ey val × Flagged k f sa sc hi m ex ey val ov x
+    (1 ≤ x) × (x ≤ ex + 1) × (length val ≡ length val₀) × (length ov ≡ 3712) × Ready few k f sa sc off hi m ex ey val × Flagged k f sa sc hi m ex ey val ov x
 
 abbrev μ-loop : tie.MeasureT-loop
 μ-loop val₀ sa sc off few k f hi m ex ey first ov₀ x₀ val ov x = ex + 1 - x
