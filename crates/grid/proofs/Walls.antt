@@ -3,10 +3,12 @@
 --   tested                   a test holds or doesn't
 --   fence-is, roof-is        what a wall asks
 --   wall-none, wall-level    no wall lets a walk be anywhere
+--   wall-between             a wall lets a walk be above a fence, or below a roof
 --   wall-start               every wall lets a walk begin
 --   wall-slid, wall-mirrored a fence in lower heights, and in mirrored ones; wall-free: no wall in either
 --   fence-low, fence-free, roof-free, roof-low, roof-high    what `fence_at` and `roof_at` find
 --   from-fence, from-end, to-reach, to-end                   what `from_at` and `to_at` find
+--   stays-not, stays-by      what `stays` finds
 --   wall-in                  the wall lets a walk be at the heights that matter
 use mathlib.Core.Path.{_≡_, refl, sym, ap, _∙_}
 use mathlib.Core.Bool.{Bool, true, false}
@@ -16,7 +18,7 @@ use native.Mathlib.Nat.{add-mul}
 use native.Mathlib.Omega.{arith}
 use lib.Dec.{T, leb, leb→le}
 use borrow.Author.Tests.{lt-ltb, le-ltb, le-leb, lt-leb}
-use Rattle.howmany.proofs.Choices.{holds, is-true}
+use Rattle.howmany.proofs.Choices.{holds, is-true, is-false}
 use Rattle.grid.specs.Form.{roof, wall}
 use Rattle.grid.specs.Heights.{Turned}
 use Rattle.grid.specs.Table.{Fence, From, Roof, To}
@@ -33,6 +35,13 @@ pub roof-is : (f x y : ℕ) → roof ≤ f → wall f x y ≡ leb y ((f - roof) 
 unfolding wall
 roof-is f x y l = rw (le-ltb f roof l)
 
+wall-between : (f x y : ℕ) → (f < roof → f * x ≤ y) → (roof ≤ f → y ≤ (f - roof) * x) → T (wall f x y)
+wall-between f x y low high =
+    elim (decLt f roof) [
+      | yes l ↦ holds (fence-is f x y l ∙ le-leb (f * x) y (low l))
+      | no l ↦ let h : roof ≤ f = omega arith in holds (roof-is f x y h ∙ le-leb y ((f - roof) * x) (high h))
+    ]
+
 pub wall-none : (x y : ℕ) → wall 0 x y ≡ true
 wall-none x y = fence-is 0 x y (omega arith) ∙ le-leb (0 * x) y (omega arith)
 
@@ -40,11 +49,7 @@ pub wall-level : (f x y : ℕ) → f ≡ 0 → T (wall f x y)
 wall-level f x y e = rw e (holds (wall-none x y))
 
 pub wall-start : (f : ℕ) → T (wall f 0 0)
-wall-start f =
-    elim (decLt f roof) [
-      | yes l ↦ holds (fence-is f 0 0 l ∙ le-leb (f * 0) 0 (omega arith))
-      | no l ↦ holds (roof-is f 0 0 (omega arith) ∙ le-leb 0 ((f - roof) * 0) (omega arith))
-    ]
+wall-start f = wall-between f 0 0 (λ l. omega arith) (λ l. omega arith)
 
 -- ---- other heights
 
@@ -101,6 +106,17 @@ module _ (f x : ℕ) where
       pub roof-high : y ≤ (f - roof) * x → Roof f x y y
       roof-high k = record { inside = λ _. k; beyond = λ v h t. h }
 
+module _ {f x y low : ℕ} (w : Fence f x low) where
+  pub stays-not : y < low → false ≡ wall f x y
+  stays-not l = sym (is-false (wall f x y) (w .least y l))
+
+  pub stays-by : {high : ℕ} → Roof f x y high → low ≤ y → leb y high ≡ wall f x y
+  stays-by {high} r l =
+      elim (decLe y high) [
+        | yes h ↦ le-leb y high h ∙ sym (is-true (wall f x y) (wall-between f x y (λ k. omega (arith, w .inside k)) (λ k. omega (arith, r .inside k))))
+        | no h ↦ lt-leb y high (omega arith) ∙ sym (is-false (wall f x y) (λ t. omega (arith, r .beyond y (omega arith) t)))
+      ]
+
 module _ {f hi ex ey x fence : ℕ} (w : Fence f x fence) (reach : ℕ) (l : 6 * reach ≤ hi * (ex - x)) where
   pub from-fence : ey ≤ fence + reach → From f hi ex ey x fence
   from-fence h = record { inside = w .inside; ends = omega arith; least = λ y k e t. w .least y k t }
@@ -117,8 +133,4 @@ module _ {f hi ey x high reach : ℕ} (w : Roof f x high reach) where
 
 module _ {f hi ex ey x from to : ℕ} (fr : From f hi ex ey x from) (up : To f hi ey x to) where
   pub wall-in : (y : ℕ) → from ≤ y → y < to → T (wall f x y)
-  wall-in y l h =
-      elim (decLt f roof) [
-        | yes k ↦ holds (fence-is f x y k ∙ le-leb (f * x) y (omega (arith, fr .inside k)))
-        | no k ↦ holds (roof-is f x y (omega arith) ∙ le-leb y ((f - roof) * x) (up .inside (omega arith) y h))
-      ]
+  wall-in y l h = wall-between f x y (λ k. omega (arith, fr .inside k)) (λ k. up .inside k y h)

@@ -175,7 +175,7 @@ pub data Lowered (s r : Shape) : Type 0 where
   reached : r .state ≡ 0 → r .corner ≡ s .corner → FormOf r → Shows (stepsAt s) (endAt s) r → Lowered s r
   unreached : r .state ≡ 2 → Beyond (stepsAt s) (endAt s) → Lowered s r
 
--- the fence is no steeper than the slope of a mirror, and the end gets no higher than the middle of a column of 192
+-- a mirror's slope is no less than the fence's; the end comes to lie no higher than 3 · 32
 pub record View (t : Bool) (d : ℕ) (s : Shape) : Type 0 where
   pub gentle : Gentle s
   pub bounds : Bounds t d (s .k) (s .sa) (s .sc)

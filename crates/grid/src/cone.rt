@@ -7,23 +7,35 @@ ghost use Rattle.grid.specs.Table.{Fence, From, Roof, To};
 // The wall ROOF + g is a roof of slope g, which a walk stays below; a lesser f is a fence of slope f, which it stays above, and 0 is no wall.
 pub(crate) const ROOF: usize = 16;
 
-// Whether the wall f lets a walk be at column x, height y.
-pub(crate) fn stays(f: usize, x: usize, y: usize) -> bool
-    requires { ⌜ (f ≤ 100) × (x ≤ 97) ⌝ }
-    ensures { λ r. ⌜ r ≡ wall f x y ⌝ }
-{
-    if f < ROOF {
-        return f * x <= y;
-    }
-    y <= (f - ROOF) * x
-}
-
 // The lowest height of column x that a fence lets be.
 fn fence_at(f: usize, x: usize) -> usize
     requires { ⌜ (f ≤ 100) × (x ≤ 97) ⌝ }
     ensures { λ r. ⌜ Fence f x r ⌝ }
 {
     if f < ROOF { f * x } else { 0 }
+}
+
+// The height y, or that of a roof at column x where it is lower.
+fn roof_at(f: usize, x: usize, y: usize) -> usize
+    requires { ⌜ (f ≤ 100) × (x ≤ 97) ⌝ }
+    ensures { λ r. ⌜ Roof f x y r ⌝ }
+{
+    if f < ROOF {
+        return y;
+    }
+    let roof = (f - ROOF) * x;
+    if roof < y { roof } else { y }
+}
+
+// Whether the wall f lets a walk be at column x, height y.
+pub(crate) fn stays(f: usize, x: usize, y: usize) -> bool
+    requires { ⌜ (f ≤ 100) × (x ≤ 97) ⌝ }
+    ensures { λ r. ⌜ r ≡ wall f x y ⌝ }
+{
+    if y < fence_at(f, x) {
+        return false;
+    }
+    y <= roof_at(f, x, y)
 }
 
 // The lowest height of column x that matters.
@@ -37,18 +49,6 @@ pub(crate) fn from_at(f: usize, hi: usize, ex: usize, ey: usize, x: usize) -> us
         return fence;
     }
     ey - reach
-}
-
-// The height y, or that of a roof at column x where it is lower.
-fn roof_at(f: usize, x: usize, y: usize) -> usize
-    requires { ⌜ (f ≤ 100) × (x ≤ 97) ⌝ }
-    ensures { λ r. ⌜ Roof f x y r ⌝ }
-{
-    if f < ROOF {
-        return y;
-    }
-    let roof = (f - ROOF) * x;
-    if roof < y { roof } else { y }
 }
 
 // Past the highest height of column x that matters.

@@ -1,23 +1,20 @@
--- `grid::cone::stays` meets its contract: by whether the wall is a fence or a roof. Assumes nothing.
-use mathlib.Core.Path.{sym}
-use Prim.Native.Nat.{_-_}
-use native.Mathlib.Omega.{arith}
-use Rattle.grid.proofs.Laws.{mul-bound}
-use Rattle.grid.proofs.Walls.{fence-is, roof-is}
+-- `grid::cone::stays` meets its contract: by the fence, and by the roof. Assumes nothing.
+use borrow.Author.Needs.{needs}
+use Rattle.grid.proofs.Walls.{stays-not, stays-by}
 use Rattle.grid.proofs.cone.stays.Statement.{statement}
 use Rattle.grid.proofs.cone.stays.Tie as tie
 
-mul-result : tie.Need-mul-result
-mul-result c = let h = mul-bound (c .before .args .f) (c .before .args .x) 100 97 (omega arith) (omega arith) in omega arith
+fence-at-requires : tie.Need-fence-at-requires
+fence-at-requires c κs = search needs
 
 returns : tie.Need-returns
-returns c = sym (fence-is _ _ _ (c .if1 .taken))
+returns c = stays-not (c .before .fence-at .ensures) (c .if1 .taken)
 
-mul-result-2 : tie.Need-mul-result-2
-mul-result-2 c = let h = mul-bound (c .before .args .f - 16) (c .before .args .x) 100 97 (omega arith) (omega arith) in omega arith
+roof-at-requires : tie.Need-roof-at-requires
+roof-at-requires c κs = search needs
 
 returns-2 : tie.Need-returns-2
-returns-2 c = sym (roof-is _ _ _ (c .if1 .left))
+returns-2 c = stays-by (c .before .before .fence-at .ensures) (c .roof-at .ensures) (c .before .if1 .left)
 
 pub stays-spec : {M : Type 1} → statement M
-stays-spec = tie.close (tie.spec mul-result returns mul-result-2 returns-2)
+stays-spec = tie.close (tie.spec fence-at-requires returns roof-at-requires returns-2)
