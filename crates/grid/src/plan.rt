@@ -1,7 +1,24 @@
-// What is found out of a form before its table is filled.
+// What is found out of a shape before its table is filled.
+ghost use mathlib.Core.Path.{_≡_};
 ghost use Prim.Native.Nat.{_*_, _≤_};
 ghost use Rattle.grid.specs.Form.{Form};
+ghost use Rattle.grid.specs.Shapes.{FormOf};
 ghost use Rattle.grid.specs.Table.{Steepest, Deepest, Few, Offsets};
+ghost use Rattle.grid.specs.Plans.{Planned, PlanOf, SizesFor, strideFor, cellsFor};
+use crate::shape::Shape;
+
+// The numbers of a shape, six times its steepest step (hi), its deepest (m), and whether it has only the first four (few).
+pub(crate) struct Plan {
+    pub corner: bool,
+    pub few: bool,
+    pub k: usize,
+    pub f: usize,
+    pub top: usize,
+    pub hi: usize,
+    pub m: usize,
+    pub ex: usize,
+    pub ey: usize,
+}
 
 fn greater(a: usize, b: usize) -> usize
     requires { ⌜ (a ≤ 72) × (b ≤ 72) ⌝ }
@@ -27,7 +44,7 @@ fn steeper(hi: usize, a: usize, c: usize, ex: usize) -> usize
     greater(hi, 2 * c)
 }
 
-pub(crate) fn steepest(
+fn steepest(
     sa: &[usize; 8],
     sc: &[usize; 8],
     k: usize,
@@ -58,7 +75,7 @@ fn deeper(m: usize, a: usize, c: usize, top: usize, ex: usize) -> usize
     if m < c { c } else { m }
 }
 
-pub(crate) fn deepest(
+fn deepest(
     sa: &[usize; 8],
     sc: &[usize; 8],
     k: usize,
@@ -79,7 +96,7 @@ pub(crate) fn deepest(
     m
 }
 
-pub(crate) fn is_few(sa: &[usize; 8], ex: usize) -> bool
+fn is_few(sa: &[usize; 8], ex: usize) -> bool
     ensures { λ r. ⌜ Few r (now (sa .entry)) ex ⌝ }
 {
     if sa[4] <= ex {
@@ -97,20 +114,35 @@ pub(crate) fn is_few(sa: &[usize; 8], ex: usize) -> bool
     true
 }
 
-pub(crate) fn offsets(
-    sa: &[usize; 8],
-    sc: &[usize; 8],
-    k: usize,
-    f: usize,
-    top: usize,
-    ex: usize,
-    ey: usize,
-    stride: usize,
-) -> [usize; 8]
-    requires { ⌜ Form k f (now sa) (now sc) top ex ey ⌝ }
-    requires { ⌜ stride ≤ 2001 ⌝ }
-    ensures { λ r. ⌜ Offsets (now (sa .entry)) (now (sc .entry)) r stride ⌝ }
+// The plan of a shape.
+pub(crate) fn plan_of(s: Shape) -> Plan
+    requires { ⌜ FormOf s ⌝ }
+    ensures { λ p. ⌜ PlanOf s p ⌝ }
 {
+    let sa = s.sa;
+    let sc = s.sc;
+    let few = is_few(&sa, s.ex);
+    let hi = steepest(&sa, &sc, s.k, s.f, s.top, s.ex, s.ey);
+    let m = deepest(&sa, &sc, s.k, s.f, s.top, s.ex, s.ey);
+    Plan {
+        corner: s.corner,
+        few,
+        k: s.k,
+        f: s.f,
+        top: s.top,
+        hi,
+        m,
+        ex: s.ex,
+        ey: s.ey,
+    }
+}
+
+// How far back each step's cells lie.
+pub(crate) fn offsets(sa: &[usize; 8], sc: &[usize; 8], p: Plan) -> [usize; 8]
+    requires { ⌜ Planned (now sa) (now sc) p ⌝ }
+    ensures { λ r. ⌜ Offsets (now (sa .entry)) (now (sc .entry)) r (strideFor p) ⌝ }
+{
+    let stride = p.m + p.ey + 1;
     let mut off = [0usize; 8];
     let mut i = 0;
     while i < 8 {
@@ -118,4 +150,12 @@ pub(crate) fn offsets(
         i += 1;
     }
     off
+}
+
+// How many cells the table has.
+pub(crate) fn cells_of(p: Plan) -> usize
+    requires { ⌜ SizesFor p ⌝ }
+    ensures { λ r. ⌜ r ≡ cellsFor p ⌝ }
+{
+    (p.ex + 2) * (p.m + p.ey + 1)
 }
