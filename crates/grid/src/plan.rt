@@ -1,9 +1,8 @@
 // What is found out of a shape before its table is filled.
 ghost use mathlib.Core.Path.{_≡_};
 ghost use Prim.Native.Nat.{_*_, _≤_};
-ghost use Rattle.grid.specs.Form.{Form};
 ghost use Rattle.grid.specs.Shapes.{FormOf};
-ghost use Rattle.grid.specs.Table.{Steepest, Deepest, Few, Offsets};
+ghost use Rattle.grid.specs.Table.{Few, Offsets};
 ghost use Rattle.grid.specs.Plans.{Planned, PlanOf, SizesFor, strideFor, cellsFor};
 use crate::shape::Shape;
 
@@ -44,27 +43,7 @@ fn steeper(hi: usize, a: usize, c: usize, ex: usize) -> usize
     greater(hi, 2 * c)
 }
 
-fn steepest(
-    sa: &[usize; 8],
-    sc: &[usize; 8],
-    k: usize,
-    f: usize,
-    top: usize,
-    ex: usize,
-    ey: usize,
-) -> usize
-    requires { ⌜ Form k f (now sa) (now sc) top ex ey ⌝ }
-    ensures { λ r. ⌜ Steepest (now (sa .entry)) (now (sc .entry)) ex r 8 ⌝ }
-{
-    let mut hi: usize = 0;
-    let mut i = 0;
-    while i < 8 {
-        hi = steeper(hi, sa[i], sc[i], ex);
-        i += 1;
-    }
-    hi
-}
-
+// The greater of m and the height of a step that is there.
 fn deeper(m: usize, a: usize, c: usize, top: usize, ex: usize) -> usize
     requires { ⌜ (m ≤ top) × (c ≤ top) ⌝ }
     ensures { λ r. ⌜ (m ≤ r) × (r ≤ top) × (a ≤ ex → c ≤ r) ⌝ }
@@ -73,27 +52,6 @@ fn deeper(m: usize, a: usize, c: usize, top: usize, ex: usize) -> usize
         return m;
     }
     if m < c { c } else { m }
-}
-
-fn deepest(
-    sa: &[usize; 8],
-    sc: &[usize; 8],
-    k: usize,
-    f: usize,
-    top: usize,
-    ex: usize,
-    ey: usize,
-) -> usize
-    requires { ⌜ Form k f (now sa) (now sc) top ex ey ⌝ }
-    ensures { λ r. ⌜ Deepest (now (sa .entry)) (now (sc .entry)) top ex r 8 ⌝ }
-{
-    let mut m: usize = 0;
-    let mut i = 0;
-    while i < 8 {
-        m = deeper(m, sa[i], sc[i], top, ex);
-        i += 1;
-    }
-    m
 }
 
 fn is_few(sa: &[usize; 8], ex: usize) -> bool
@@ -119,11 +77,17 @@ pub(crate) fn plan_of(s: Shape) -> Plan
     requires { ⌜ FormOf s ⌝ }
     ensures { λ p. ⌜ PlanOf s p ⌝ }
 {
-    let sa = s.sa;
-    let sc = s.sc;
-    let few = is_few(&sa, s.ex);
-    let hi = steepest(&sa, &sc, s.k, s.f, s.top, s.ex, s.ey);
-    let m = deepest(&sa, &sc, s.k, s.f, s.top, s.ex, s.ey);
+    let mut hi: usize = 0;
+    let mut m: usize = 0;
+    let mut i = 0;
+    while i < 8 {
+        let a = s.sa[i];
+        let c = s.sc[i];
+        hi = steeper(hi, a, c, s.ex);
+        m = deeper(m, a, c, s.top, s.ex);
+        i += 1;
+    }
+    let few = is_few(&s.sa, s.ex);
     Plan {
         corner: s.corner,
         few,
