@@ -3,16 +3,22 @@
 --   strideFor p, cellsFor p           how many cells a column has, and all of the table
 --   SizesFor p                        bounds of the plan's numbers
 --   FormFor p sa sc                   the steps sa, sc with the plan's end are a form
---   Planned sa sc p                   the plan p is one of the steps sa, sc
+--   Planned sa sc p                   the steps sa, sc have the form, the steepest and the deepest step that the plan p says, and are few if it says so
 --   PlanOf s p                        the plan p is the shape s's
 --   PreparedFor, BegunFor, FilledFor, SpellingFor, SpellsFor    Prepared, Begun, Filled, Spelling and Spells by a plan
 --   countFor, numberFor p sa sc e     the count by a plan, and the number of the edge e
---   edgeFor p sa sc r, listFor, buildFor p sa sc ns  the edge of the number r, those of the numbers ns, and those or refusal 4 or 6
---   countAt s, numberAt s e, buildAt s ns            the same of the shape s
+--   edgeFor p sa sc r                 the edge of the number r; ListsFor, BuildsFor: those of the numbers ns written, and those or refusal 4 or 6
+--   countAt, numberAt, BuildsAt s     the same of the shape s
+--   RoomFor ns steps ends             there is room for the edges of the numbers ns
 use mathlib.Core.Path.{_≡_}
 use mathlib.Core.List.{List}
 use Prim.Native.Nat.{ℕ, _+_, _*_}
+use lib.ListN.{length}
 use Rattle.rules.specs.Refusals.{Answer}
+use Rattle.rules.specs.Refusals.Answer.{accepted}
+use Rattle.job.specs.declared.Built.{Built}
+use Rattle.job.specs.declared.Built.the-variants.{Length}
+use Rattle.lines.specs.Lines.{lined, LinedAs, Room}
 use Rattle.grid.specs.declared.Answer as counts
 use Rattle.grid.specs.declared.plan.Plan.{Plan}
 use Rattle.grid.specs.declared.shape.Shape.{Shape}
@@ -74,11 +80,13 @@ numberFor p sa sc e = tableNumber (p .corner) (p .k) (p .f) sa sc (p .ex) (p .ey
 abbrev pub edgeFor : Plan → List ℕ → List ℕ → ℕ → List ℕ
 edgeFor p sa sc r = edgeOf (p .corner) (p .k) (p .f) sa sc (p .ex) (p .ey) r
 
-abbrev pub listFor : Plan → List ℕ → List ℕ → List ℕ → List (List ℕ)
-listFor p sa sc ns = edgesBy (p .corner) (p .k) (p .f) sa sc (p .ex) (p .ey) ns
+abbrev pub ListsFor : Plan → List ℕ → List ℕ → List ℕ → List ℕ → List ℕ → List ℕ → List ℕ → ℕ → Type 0
+ListsFor p sa sc ns steps ends after-steps after-ends at =
+    LinedAs (lined (accepted (edgesBy (p .corner) (p .k) (p .f) sa sc (p .ex) (p .ey) ns)) steps ends) (Length at) after-steps after-ends
 
-abbrev pub buildFor : Plan → List ℕ → List ℕ → List ℕ → Answer (List (List ℕ))
-buildFor p sa sc ns = edgesFor (p .corner) (p .k) (p .f) sa sc (p .ex) (p .ey) ns
+abbrev pub BuildsFor : Plan → List ℕ → List ℕ → List ℕ → List ℕ → List ℕ → List ℕ → List ℕ → Built → Type 0
+BuildsFor p sa sc ns steps ends after-steps after-ends r =
+    LinedAs (lined (edgesFor (p .corner) (p .k) (p .f) sa sc (p .ex) (p .ey) ns) steps ends) r after-steps after-ends
 
 abbrev pub countAt : Shape → counts.Answer
 countAt s = capOf (W (s .k) (s .f) (s .sa) (s .sc) (s .ex) (s .ey))
@@ -86,5 +94,9 @@ countAt s = capOf (W (s .k) (s .f) (s .sa) (s .sc) (s .ex) (s .ey))
 abbrev pub numberAt : Shape → List ℕ → Answer ℕ
 numberAt s e = tableNumber (s .corner) (s .k) (s .f) (s .sa) (s .sc) (s .ex) (s .ey) e
 
-abbrev pub buildAt : Shape → List ℕ → Answer (List (List ℕ))
-buildAt s ns = edgesFor (s .corner) (s .k) (s .f) (s .sa) (s .sc) (s .ex) (s .ey) ns
+abbrev pub BuildsAt : Shape → List ℕ → List ℕ → List ℕ → List ℕ → List ℕ → Built → Type 0
+BuildsAt s ns steps ends after-steps after-ends r =
+    LinedAs (lined (edgesFor (s .corner) (s .k) (s .f) (s .sa) (s .sc) (s .ex) (s .ey) ns) steps ends) r after-steps after-ends
+
+abbrev pub RoomFor : List ℕ → List ℕ → List ℕ → Type 0
+RoomFor ns steps ends = Room (length ns) (length steps) (length ends)

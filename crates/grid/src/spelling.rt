@@ -1,12 +1,9 @@
 // The edges of a list of numbers: the table is filled once, so that refusal 4 goes before 6, and then each edge is spelt from its end.
 ghost use Prim.Native.Nat.{_≤_};
 ghost use lib.ListN.{length};
-ghost use Rattle.rules.specs.Refusals.Answer.{accepted};
-ghost use Rattle.job.specs.declared.Built.the-variants.{Length};
-ghost use Rattle.lines.specs.Lines.{lined, LinedAs, Room};
 ghost use Rattle.grid.specs.Shapes.{FormOf};
 ghost use Rattle.grid.specs.Spelling.{Front};
-ghost use Rattle.grid.specs.Plans.{PreparedFor, BegunFor, SpellingFor, SpellsFor, edgeFor, listFor, buildFor, buildAt};
+ghost use Rattle.grid.specs.Plans.{PreparedFor, BegunFor, SpellingFor, SpellsFor, RoomFor, edgeFor, ListsFor, BuildsFor, BuildsAt};
 use crate::Answer;
 use crate::counting::count_in;
 use crate::edges::spell;
@@ -62,8 +59,8 @@ fn spell_all(
     steps: &mut [u8],
     ends: &mut [usize],
 ) -> usize
-    requires { ⌜ SpellsFor p (now sa) (now sc) (now off) (now val) (now numbers) × Room (length (now numbers)) (length (now steps)) (length (now ends)) ⌝ }
-    ensures { λ at. ⌜ LinedAs (lined (accepted (listFor p (now (sa .entry)) (now (sc .entry)) (now (numbers .entry)))) (now (steps .entry)) (now (ends .entry))) (Length at) (now (steps .exit)) (now (ends .exit)) ⌝ }
+    requires { ⌜ SpellsFor p (now sa) (now sc) (now off) (now val) (now numbers) × RoomFor (now numbers) (now steps) (now ends) ⌝ }
+    ensures { λ at. ⌜ ListsFor p (now (sa .entry)) (now (sc .entry)) (now (numbers .entry)) (now (steps .entry)) (now (ends .entry)) (now (steps .exit)) (now (ends .exit)) at ⌝ }
 {
     let mut at: usize = 0;
     let mut i: usize = 0;
@@ -87,8 +84,8 @@ fn spell_in(
     steps: &mut [u8],
     ends: &mut [usize],
 ) -> Built
-    requires { ⌜ BegunFor p (now sa) (now sc) (now off) (now val) × Room (length (now numbers)) (length (now steps)) (length (now ends)) ⌝ }
-    ensures { λ r. ⌜ LinedAs (lined (buildFor p (now (sa .entry)) (now (sc .entry)) (now (numbers .entry))) (now (steps .entry)) (now (ends .entry))) r (now (steps .exit)) (now (ends .exit)) ⌝ }
+    requires { ⌜ BegunFor p (now sa) (now sc) (now off) (now val) × RoomFor (now numbers) (now steps) (now ends) ⌝ }
+    ensures { λ r. ⌜ BuildsFor p (now (sa .entry)) (now (sc .entry)) (now (numbers .entry)) (now (steps .entry)) (now (ends .entry)) (now (steps .exit)) (now (ends .exit)) r ⌝ }
 {
     let Answer::Count(c) = count_in(val, sa, sc, off, p) else {
         return Built::Refused(4);
@@ -108,8 +105,8 @@ fn spell_384(
     steps: &mut [u8],
     ends: &mut [usize],
 ) -> Built
-    requires { ⌜ PreparedFor p (now sa) (now sc) (now off) 384 × Room (length (now numbers)) (length (now steps)) (length (now ends)) ⌝ }
-    ensures { λ r. ⌜ LinedAs (lined (buildFor p (now (sa .entry)) (now (sc .entry)) (now (numbers .entry))) (now (steps .entry)) (now (ends .entry))) r (now (steps .exit)) (now (ends .exit)) ⌝ }
+    requires { ⌜ PreparedFor p (now sa) (now sc) (now off) 384 × RoomFor (now numbers) (now steps) (now ends) ⌝ }
+    ensures { λ r. ⌜ BuildsFor p (now (sa .entry)) (now (sc .entry)) (now (numbers .entry)) (now (steps .entry)) (now (ends .entry)) (now (steps .exit)) (now (ends .exit)) r ⌝ }
 {
     let mut val = [0u64; 384];
     spell_in(&mut val, sa, sc, off, p, numbers, steps, ends)
@@ -124,8 +121,8 @@ fn spell_1280(
     steps: &mut [u8],
     ends: &mut [usize],
 ) -> Built
-    requires { ⌜ PreparedFor p (now sa) (now sc) (now off) 1280 × Room (length (now numbers)) (length (now steps)) (length (now ends)) ⌝ }
-    ensures { λ r. ⌜ LinedAs (lined (buildFor p (now (sa .entry)) (now (sc .entry)) (now (numbers .entry))) (now (steps .entry)) (now (ends .entry))) r (now (steps .exit)) (now (ends .exit)) ⌝ }
+    requires { ⌜ PreparedFor p (now sa) (now sc) (now off) 1280 × RoomFor (now numbers) (now steps) (now ends) ⌝ }
+    ensures { λ r. ⌜ BuildsFor p (now (sa .entry)) (now (sc .entry)) (now (numbers .entry)) (now (steps .entry)) (now (ends .entry)) (now (steps .exit)) (now (ends .exit)) r ⌝ }
 {
     let mut val = [0u64; 1280];
     spell_in(&mut val, sa, sc, off, p, numbers, steps, ends)
@@ -140,8 +137,8 @@ fn spell_2496(
     steps: &mut [u8],
     ends: &mut [usize],
 ) -> Built
-    requires { ⌜ PreparedFor p (now sa) (now sc) (now off) 2496 × Room (length (now numbers)) (length (now steps)) (length (now ends)) ⌝ }
-    ensures { λ r. ⌜ LinedAs (lined (buildFor p (now (sa .entry)) (now (sc .entry)) (now (numbers .entry))) (now (steps .entry)) (now (ends .entry))) r (now (steps .exit)) (now (ends .exit)) ⌝ }
+    requires { ⌜ PreparedFor p (now sa) (now sc) (now off) 2496 × RoomFor (now numbers) (now steps) (now ends) ⌝ }
+    ensures { λ r. ⌜ BuildsFor p (now (sa .entry)) (now (sc .entry)) (now (numbers .entry)) (now (steps .entry)) (now (ends .entry)) (now (steps .exit)) (now (ends .exit)) r ⌝ }
 {
     let mut val = [0u64; 2496];
     spell_in(&mut val, sa, sc, off, p, numbers, steps, ends)
@@ -156,8 +153,8 @@ fn spell_3712(
     steps: &mut [u8],
     ends: &mut [usize],
 ) -> Built
-    requires { ⌜ PreparedFor p (now sa) (now sc) (now off) 3712 × Room (length (now numbers)) (length (now steps)) (length (now ends)) ⌝ }
-    ensures { λ r. ⌜ LinedAs (lined (buildFor p (now (sa .entry)) (now (sc .entry)) (now (numbers .entry))) (now (steps .entry)) (now (ends .entry))) r (now (steps .exit)) (now (ends .exit)) ⌝ }
+    requires { ⌜ PreparedFor p (now sa) (now sc) (now off) 3712 × RoomFor (now numbers) (now steps) (now ends) ⌝ }
+    ensures { λ r. ⌜ BuildsFor p (now (sa .entry)) (now (sc .entry)) (now (numbers .entry)) (now (steps .entry)) (now (ends .entry)) (now (steps .exit)) (now (ends .exit)) r ⌝ }
 {
     let mut val = [0u64; 3712];
     spell_in(&mut val, sa, sc, off, p, numbers, steps, ends)
@@ -172,8 +169,8 @@ fn spell_7040(
     steps: &mut [u8],
     ends: &mut [usize],
 ) -> Built
-    requires { ⌜ PreparedFor p (now sa) (now sc) (now off) 7040 × Room (length (now numbers)) (length (now steps)) (length (now ends)) ⌝ }
-    ensures { λ r. ⌜ LinedAs (lined (buildFor p (now (sa .entry)) (now (sc .entry)) (now (numbers .entry))) (now (steps .entry)) (now (ends .entry))) r (now (steps .exit)) (now (ends .exit)) ⌝ }
+    requires { ⌜ PreparedFor p (now sa) (now sc) (now off) 7040 × RoomFor (now numbers) (now steps) (now ends) ⌝ }
+    ensures { λ r. ⌜ BuildsFor p (now (sa .entry)) (now (sc .entry)) (now (numbers .entry)) (now (steps .entry)) (now (ends .entry)) (now (steps .exit)) (now (ends .exit)) r ⌝ }
 {
     let mut val = [0u64; 7040];
     spell_in(&mut val, sa, sc, off, p, numbers, steps, ends)
@@ -181,8 +178,8 @@ fn spell_7040(
 
 // The edges, over a table of the smallest of five sizes that has room.
 pub(crate) fn spell_edges(s: Shape, numbers: &[u64], steps: &mut [u8], ends: &mut [usize]) -> Built
-    requires { ⌜ FormOf s × Room (length (now numbers)) (length (now steps)) (length (now ends)) ⌝ }
-    ensures { λ r. ⌜ LinedAs (lined (buildAt s (now (numbers .entry))) (now (steps .entry)) (now (ends .entry))) r (now (steps .exit)) (now (ends .exit)) ⌝ }
+    requires { ⌜ FormOf s × RoomFor (now numbers) (now steps) (now ends) ⌝ }
+    ensures { λ r. ⌜ BuildsAt s (now (numbers .entry)) (now (steps .entry)) (now (ends .entry)) (now (steps .exit)) (now (ends .exit)) r ⌝ }
 {
     let p = plan_of(s);
     let sa = s.sa;

@@ -1,5 +1,5 @@
 -- `grid::spelling::spell_edges` meets its contract: the smallest size that has room is prepared. Assumes nothing.
-use Rattle.grid.proofs.Planning.{prepared-for, prepared-last, sizes-for, lined-at}
+use Rattle.grid.proofs.Planning.{prepared-for, prepared-last, sizes-for, builds-at}
 use borrow.Author.Needs.{needs}
 use Rattle.grid.proofs.spelling.spell_edges.Statement.{statement}
 use Rattle.grid.proofs.spelling.spell_edges.Tie as tie
@@ -23,7 +23,7 @@ same-length-2 : tie.Need-same-length-2
 same-length-2 c = search needs
 
 returns : tie.Need-returns
-returns c = lined-at (c .before .before .before .before .before .before .before .before .before .before .before .before .before .before .before .before .before .plan-of .ensures) _ _ _ _ _ _ (c .before .before .before .before .spell-384 .ensures)
+returns c = builds-at (c .before .before .before .before .before .before .before .before .before .before .before .before .before .before .before .before .before .plan-of .ensures) _ _ _ _ _ _ (c .before .before .before .before .spell-384 .ensures)
 
 spell-1280-requires : tie.Need-spell-1280-requires
 spell-1280-requires c κs = (prepared-for (c .before .before .before .before .before .before .before .before .before .before .before .before .before .plan-of .ensures .planned) (c .before .before .before .before .before .before .before .before .offsets .ensures) (c .before .before .before .before .before .before .before .cells-of .ensures) 1280 (c .before .before .before .before .before .if2 .taken), c .before .before .before .before .before .before .before .before .before .before .before .before .before .before .before .before .before .pre .1)
@@ -35,7 +35,7 @@ same-length-4 : tie.Need-same-length-4
 same-length-4 c = search needs
 
 returns-2 : tie.Need-returns-2
-returns-2 c = lined-at (c .before .before .before .before .before .before .before .before .before .before .before .before .before .before .before .before .before .before .plan-of .ensures) _ _ _ _ _ _ (c .before .before .before .before .spell-1280 .ensures)
+returns-2 c = builds-at (c .before .before .before .before .before .before .before .before .before .before .before .before .before .before .before .before .before .before .plan-of .ensures) _ _ _ _ _ _ (c .before .before .before .before .spell-1280 .ensures)
 
 spell-2496-requires : tie.Need-spell-2496-requires
 spell-2496-requires c κs = (prepared-for (c .before .before .before .before .before .before .before .before .before .before .before .before .before .before .plan-of .ensures .planned) (c .before .before .before .before .before .before .before .before .before .offsets .ensures) (c .before .before .before .before .before .before .before .before .cells-of .ensures) 2496 (c .before .before .before .before .before .if3 .taken), c .before .before .before .before .before .before .before .before .before .before .before .before .before .before .before .before .before .before .pre .1)
@@ -47,7 +47,7 @@ same-length-6 : tie.Need-same-length-6
 same-length-6 c = search needs
 
 returns-3 : tie.Need-returns-3
-returns-3 c = lined-at (c .before .before .before .before .before .before .before .before .before .before .before .before .before .before .before .before .before .before .before .plan-of .ensures) _ _ _ _ _ _ (c .before .before .before .before .spell-2496 .ensures)
+returns-3 c = builds-at (c .before .before .before .before .before .before .before .before .before .before .before .before .before .before .before .before .before .before .before .plan-of .ensures) _ _ _ _ _ _ (c .before .before .before .before .spell-2496 .ensures)
 
 spell-3712-requires : tie.Need-spell-3712-requires
 spell-3712-requires c κs = (prepared-for (c .before .before .before .before .before .before .before .before .before .before .before .before .before .before .before .plan-of .ensures .planned) (c .before .before .before .before .before .before .before .before .before .before .offsets .ensures) (c .before .before .before .before .before .before .before .before .before .cells-of .ensures) 3712 (c .before .before .before .before .before .if4 .taken), c .before .before .before .before .before .before .before .before .before .before .before .before .before .before .before .before .before .before .before .pre .1)
@@ -59,7 +59,7 @@ same-length-8 : tie.Need-same-length-8
 same-length-8 c = search needs
 
 returns-4 : tie.Need-returns-4
-returns-4 c = lined-at (c .before .before .before .before .before .before .before .before .before .before .before .before .before .before .before .before .before .before .before .before .plan-of .ensures) _ _ _ _ _ _ (c .before .before .before .before .spell-3712 .ensures)
+returns-4 c = builds-at (c .before .before .before .before .before .before .before .before .before .before .before .before .before .before .before .before .before .before .before .before .plan-of .ensures) _ _ _ _ _ _ (c .before .before .before .before .spell-3712 .ensures)
 
 spell-7040-requires : tie.Need-spell-7040-requires
 spell-7040-requires c κs = (prepared-last (c .before .before .before .before .before .before .before .before .before .before .before .before .before .before .before .plan-of .ensures .planned) (c .before .before .before .before .before .before .before .before .before .before .offsets .ensures), c .before .before .before .before .before .before .before .before .before .before .before .before .before .before .before .before .before .before .before .pre .1)
@@ -71,7 +71,7 @@ same-length-10 : tie.Need-same-length-10
 same-length-10 c = search needs
 
 returns-5 : tie.Need-returns-5
-returns-5 c = lined-at (c .before .before .before .before .before .before .before .before .before .before .before .before .before .before .before .before .before .before .before .before .plan-of .ensures) _ _ _ _ _ _ (c .before .before .before .before .spell-7040 .ensures)
+returns-5 c = builds-at (c .before .before .before .before .before .before .before .before .before .before .before .before .before .before .before .before .before .before .before .before .plan-of .ensures) _ _ _ _ _ _ (c .before .before .before .before .spell-7040 .ensures)
 
 pub spell-edges-spec : {M : Type 1} → statement M
 spell-edges-spec =
