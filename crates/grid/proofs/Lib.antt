@@ -6,6 +6,7 @@ pub mod Columns
 pub mod Turns
 pub mod Phases
 pub mod Prepare
+pub mod Planning
 pub mod Reading
 pub mod Numbers
 pub mod Building

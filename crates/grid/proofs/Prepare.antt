@@ -1,8 +1,8 @@
 -- What is found out of a form. Assumes nothing.
 --
 --   slope-by                                    a slope where a is known
---   steepest-none, steepest-more, steepest-at   the loop of `steepest`
---   deepest-none, deepest-more, deepest-at      the loop of `deepest`
+--   steepest-none, steepest-more, steepest-at   the steepest step, in the loop of `plan_of`
+--   deepest-none, deepest-more, deepest-at      the deepest step, in the same loop
 --   offset-more                                 the loop of `offsets`
 --   few-not, few-yes                            `is_few`
 --   form-pos, form-near, form-far, form-low     all eight steps of a form, those that aren't there too

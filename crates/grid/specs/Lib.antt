@@ -9,3 +9,4 @@ pub mod Calls
 pub mod Numbering
 pub mod Spelling
 pub mod Rows
+pub mod Plans

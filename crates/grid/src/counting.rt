@@ -1,118 +1,79 @@
 // The count, in a table of the smallest of four sizes that has room: clearing the largest takes as long as filling a small one.
 ghost use mathlib.Core.Path.{_≡_};
-ghost use Rattle.grid.specs.Form.{Form, W};
-ghost use Rattle.grid.specs.Cells.{capOf};
-ghost use Rattle.grid.specs.Table.{Prepared};
+ghost use Rattle.grid.specs.Shapes.{FormOf};
+ghost use Rattle.grid.specs.Plans.{PreparedFor, BegunFor, FilledFor, countFor, countAt};
 use crate::Answer;
-use crate::plan::deepest;
-use crate::plan::is_few;
+use crate::plan::Plan;
+use crate::plan::cells_of;
 use crate::plan::offsets;
-use crate::plan::steepest;
+use crate::plan::plan_of;
+use crate::shape::Shape;
 use crate::table::fill;
 
-fn count_384(
+// The table filled by a plan; the answer is the count at the end.
+pub(crate) fn count_in(
+    val: &mut [u64],
     sa: &[usize; 8],
     sc: &[usize; 8],
     off: &[usize; 8],
-    few: bool,
-    k: usize,
-    f: usize,
-    hi: usize,
-    m: usize,
-    ex: usize,
-    ey: usize,
+    p: Plan,
 ) -> Answer
-    requires { ⌜ Prepared few k f (now sa) (now sc) (now off) hi m ex ey 384 ⌝ }
-    ensures { λ r. ⌜ r ≡ capOf (W k f (now (sa .entry)) (now (sc .entry)) ex ey) ⌝ }
+    requires { ⌜ BegunFor p (now sa) (now sc) (now off) (now val) ⌝ }
+    ensures { λ r. ⌜ FilledFor p (now (sa .entry)) (now (sc .entry)) (now (val .exit)) r ⌝ }
+{
+    fill(val, sa, sc, off, p.few, p.k, p.f, p.hi, p.m, p.ex, p.ey)
+}
+
+fn count_384(sa: &[usize; 8], sc: &[usize; 8], off: &[usize; 8], p: Plan) -> Answer
+    requires { ⌜ PreparedFor p (now sa) (now sc) (now off) 384 ⌝ }
+    ensures { λ r. ⌜ r ≡ countFor p (now (sa .entry)) (now (sc .entry)) ⌝ }
 {
     let mut val = [0u64; 384];
-    fill(&mut val, sa, sc, off, few, k, f, hi, m, ex, ey)
+    count_in(&mut val, sa, sc, off, p)
 }
 
-fn count_1280(
-    sa: &[usize; 8],
-    sc: &[usize; 8],
-    off: &[usize; 8],
-    few: bool,
-    k: usize,
-    f: usize,
-    hi: usize,
-    m: usize,
-    ex: usize,
-    ey: usize,
-) -> Answer
-    requires { ⌜ Prepared few k f (now sa) (now sc) (now off) hi m ex ey 1280 ⌝ }
-    ensures { λ r. ⌜ r ≡ capOf (W k f (now (sa .entry)) (now (sc .entry)) ex ey) ⌝ }
+fn count_1280(sa: &[usize; 8], sc: &[usize; 8], off: &[usize; 8], p: Plan) -> Answer
+    requires { ⌜ PreparedFor p (now sa) (now sc) (now off) 1280 ⌝ }
+    ensures { λ r. ⌜ r ≡ countFor p (now (sa .entry)) (now (sc .entry)) ⌝ }
 {
     let mut val = [0u64; 1280];
-    fill(&mut val, sa, sc, off, few, k, f, hi, m, ex, ey)
+    count_in(&mut val, sa, sc, off, p)
 }
 
-fn count_2496(
-    sa: &[usize; 8],
-    sc: &[usize; 8],
-    off: &[usize; 8],
-    few: bool,
-    k: usize,
-    f: usize,
-    hi: usize,
-    m: usize,
-    ex: usize,
-    ey: usize,
-) -> Answer
-    requires { ⌜ Prepared few k f (now sa) (now sc) (now off) hi m ex ey 2496 ⌝ }
-    ensures { λ r. ⌜ r ≡ capOf (W k f (now (sa .entry)) (now (sc .entry)) ex ey) ⌝ }
+fn count_2496(sa: &[usize; 8], sc: &[usize; 8], off: &[usize; 8], p: Plan) -> Answer
+    requires { ⌜ PreparedFor p (now sa) (now sc) (now off) 2496 ⌝ }
+    ensures { λ r. ⌜ r ≡ countFor p (now (sa .entry)) (now (sc .entry)) ⌝ }
 {
     let mut val = [0u64; 2496];
-    fill(&mut val, sa, sc, off, few, k, f, hi, m, ex, ey)
+    count_in(&mut val, sa, sc, off, p)
 }
 
-fn count_3712(
-    sa: &[usize; 8],
-    sc: &[usize; 8],
-    off: &[usize; 8],
-    few: bool,
-    k: usize,
-    f: usize,
-    hi: usize,
-    m: usize,
-    ex: usize,
-    ey: usize,
-) -> Answer
-    requires { ⌜ Prepared few k f (now sa) (now sc) (now off) hi m ex ey 3712 ⌝ }
-    ensures { λ r. ⌜ r ≡ capOf (W k f (now (sa .entry)) (now (sc .entry)) ex ey) ⌝ }
+fn count_3712(sa: &[usize; 8], sc: &[usize; 8], off: &[usize; 8], p: Plan) -> Answer
+    requires { ⌜ PreparedFor p (now sa) (now sc) (now off) 3712 ⌝ }
+    ensures { λ r. ⌜ r ≡ countFor p (now (sa .entry)) (now (sc .entry)) ⌝ }
 {
     let mut val = [0u64; 3712];
-    fill(&mut val, sa, sc, off, few, k, f, hi, m, ex, ey)
+    count_in(&mut val, sa, sc, off, p)
 }
 
-// How many walks end at column ex, height ey.
-pub(crate) fn count(
-    sa: &[usize; 8],
-    sc: &[usize; 8],
-    k: usize,
-    f: usize,
-    top: usize,
-    ex: usize,
-    ey: usize,
-) -> Answer
-    requires { ⌜ Form k f (now sa) (now sc) top ex ey ⌝ }
-    ensures { λ r. ⌜ r ≡ capOf (W k f (now (sa .entry)) (now (sc .entry)) ex ey) ⌝ }
+// How many walks lead to the shape's end.
+pub(crate) fn count(s: Shape) -> Answer
+    requires { ⌜ FormOf s ⌝ }
+    ensures { λ r. ⌜ r ≡ countAt s ⌝ }
 {
-    let hi = steepest(sa, sc, k, f, top, ex, ey);
-    let m = deepest(sa, sc, k, f, top, ex, ey);
-    let few = is_few(sa, ex);
-    let stride = m + ey + 1;
-    let off = offsets(sa, sc, k, f, top, ex, ey, stride);
-    let cells = (ex + 2) * stride;
+    let p = plan_of(s);
+    let sa = s.sa;
+    let sc = s.sc;
+    let off = offsets(&sa, &sc, p);
+    let cells = cells_of(p);
     if cells <= 384 {
-        return count_384(sa, sc, &off, few, k, f, hi, m, ex, ey);
+        return count_384(&sa, &sc, &off, p);
     }
     if cells <= 1280 {
-        return count_1280(sa, sc, &off, few, k, f, hi, m, ex, ey);
+        return count_1280(&sa, &sc, &off, p);
     }
     if cells <= 2496 {
-        return count_2496(sa, sc, &off, few, k, f, hi, m, ex, ey);
+        return count_2496(&sa, &sc, &off, p);
     }
-    count_3712(sa, sc, &off, few, k, f, hi, m, ex, ey)
+    count_3712(&sa, &sc, &off, p)
 }

@@ -60,9 +60,7 @@ fn count_shape(s: Shape) -> Counted
     if state == 2 {
         return Counted::Count(0);
     }
-    let sa = s.sa;
-    let sc = s.sc;
-    match counting::count(&sa, &sc, s.k, s.f, s.top, s.ex, s.ey) {
+    match counting::count(s) {
         Answer::Count(c) => Counted::Count(c),
         Answer::Over => Counted::Refused(4),
     }
@@ -96,9 +94,7 @@ fn number_shape(s: Shape, edge: &[u8]) -> Numbered
     if state == 2 {
         return Numbered::Refused(5);
     }
-    let sa = s.sa;
-    let sc = s.sc;
-    numbering::number(&sa, &sc, s.k, s.f, s.top, s.ex, s.ey, s.corner, edge)
+    numbering::number(s, edge)
 }
 
 // The edges of a list of numbers, one after the other, and where each ends (000, algorithms 2 and 6; 001, algorithm 8).
@@ -135,19 +131,5 @@ fn build_shape(s: Shape, numbers: &[u64], steps: &mut [u8], ends: &mut [usize]) 
         }
         return Built::Length(0);
     }
-    let sa = s.sa;
-    let sc = s.sc;
-    spelling::spell_edges(
-        &sa,
-        &sc,
-        s.k,
-        s.f,
-        s.top,
-        s.ex,
-        s.ey,
-        s.corner,
-        numbers,
-        steps,
-        ends,
-    )
+    spelling::spell_edges(s, numbers, steps, ends)
 }

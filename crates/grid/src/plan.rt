@@ -1,7 +1,23 @@
-// What is found out of a form before its table is filled.
+// What is found out of a shape before its table is filled.
+ghost use mathlib.Core.Path.{_≡_};
 ghost use Prim.Native.Nat.{_*_, _≤_};
-ghost use Rattle.grid.specs.Form.{Form};
-ghost use Rattle.grid.specs.Table.{Steepest, Deepest, Few, Offsets};
+ghost use Rattle.grid.specs.Shapes.{FormOf};
+ghost use Rattle.grid.specs.Table.{Few, Offsets};
+ghost use Rattle.grid.specs.Plans.{Planned, PlanOf, SizesFor, strideFor, cellsFor};
+use crate::shape::Shape;
+
+// The numbers of a shape, six times its steepest step (hi), its deepest (m), and whether it has only the first four (few).
+pub(crate) struct Plan {
+    pub corner: bool,
+    pub few: bool,
+    pub k: usize,
+    pub f: usize,
+    pub top: usize,
+    pub hi: usize,
+    pub m: usize,
+    pub ex: usize,
+    pub ey: usize,
+}
 
 fn greater(a: usize, b: usize) -> usize
     requires { ⌜ (a ≤ 72) × (b ≤ 72) ⌝ }
@@ -27,27 +43,7 @@ fn steeper(hi: usize, a: usize, c: usize, ex: usize) -> usize
     greater(hi, 2 * c)
 }
 
-pub(crate) fn steepest(
-    sa: &[usize; 8],
-    sc: &[usize; 8],
-    k: usize,
-    f: usize,
-    top: usize,
-    ex: usize,
-    ey: usize,
-) -> usize
-    requires { ⌜ Form k f (now sa) (now sc) top ex ey ⌝ }
-    ensures { λ r. ⌜ Steepest (now (sa .entry)) (now (sc .entry)) ex r 8 ⌝ }
-{
-    let mut hi: usize = 0;
-    let mut i = 0;
-    while i < 8 {
-        hi = steeper(hi, sa[i], sc[i], ex);
-        i += 1;
-    }
-    hi
-}
-
+// The greater of m and the height of a step that is there.
 fn deeper(m: usize, a: usize, c: usize, top: usize, ex: usize) -> usize
     requires { ⌜ (m ≤ top) × (c ≤ top) ⌝ }
     ensures { λ r. ⌜ (m ≤ r) × (r ≤ top) × (a ≤ ex → c ≤ r) ⌝ }
@@ -58,28 +54,7 @@ fn deeper(m: usize, a: usize, c: usize, top: usize, ex: usize) -> usize
     if m < c { c } else { m }
 }
 
-pub(crate) fn deepest(
-    sa: &[usize; 8],
-    sc: &[usize; 8],
-    k: usize,
-    f: usize,
-    top: usize,
-    ex: usize,
-    ey: usize,
-) -> usize
-    requires { ⌜ Form k f (now sa) (now sc) top ex ey ⌝ }
-    ensures { λ r. ⌜ Deepest (now (sa .entry)) (now (sc .entry)) top ex r 8 ⌝ }
-{
-    let mut m: usize = 0;
-    let mut i = 0;
-    while i < 8 {
-        m = deeper(m, sa[i], sc[i], top, ex);
-        i += 1;
-    }
-    m
-}
-
-pub(crate) fn is_few(sa: &[usize; 8], ex: usize) -> bool
+fn is_few(sa: &[usize; 8], ex: usize) -> bool
     ensures { λ r. ⌜ Few r (now (sa .entry)) ex ⌝ }
 {
     if sa[4] <= ex {
@@ -97,20 +72,41 @@ pub(crate) fn is_few(sa: &[usize; 8], ex: usize) -> bool
     true
 }
 
-pub(crate) fn offsets(
-    sa: &[usize; 8],
-    sc: &[usize; 8],
-    k: usize,
-    f: usize,
-    top: usize,
-    ex: usize,
-    ey: usize,
-    stride: usize,
-) -> [usize; 8]
-    requires { ⌜ Form k f (now sa) (now sc) top ex ey ⌝ }
-    requires { ⌜ stride ≤ 2001 ⌝ }
-    ensures { λ r. ⌜ Offsets (now (sa .entry)) (now (sc .entry)) r stride ⌝ }
+// The plan of a shape.
+pub(crate) fn plan_of(s: Shape) -> Plan
+    requires { ⌜ FormOf s ⌝ }
+    ensures { λ p. ⌜ PlanOf s p ⌝ }
 {
+    let mut hi: usize = 0;
+    let mut m: usize = 0;
+    let mut i = 0;
+    while i < 8 {
+        let a = s.sa[i];
+        let c = s.sc[i];
+        hi = steeper(hi, a, c, s.ex);
+        m = deeper(m, a, c, s.top, s.ex);
+        i += 1;
+    }
+    let few = is_few(&s.sa, s.ex);
+    Plan {
+        corner: s.corner,
+        few,
+        k: s.k,
+        f: s.f,
+        top: s.top,
+        hi,
+        m,
+        ex: s.ex,
+        ey: s.ey,
+    }
+}
+
+// How far back each step's cells lie.
+pub(crate) fn offsets(sa: &[usize; 8], sc: &[usize; 8], p: Plan) -> [usize; 8]
+    requires { ⌜ Planned (now sa) (now sc) p ⌝ }
+    ensures { λ r. ⌜ Offsets (now (sa .entry)) (now (sc .entry)) r (strideFor p) ⌝ }
+{
+    let stride = p.m + p.ey + 1;
     let mut off = [0usize; 8];
     let mut i = 0;
     while i < 8 {
@@ -118,4 +114,12 @@ pub(crate) fn offsets(
         i += 1;
     }
     off
+}
+
+// How many cells the table has.
+pub(crate) fn cells_of(p: Plan) -> usize
+    requires { ⌜ SizesFor p ⌝ }
+    ensures { λ r. ⌜ r ≡ cellsFor p ⌝ }
+{
+    (p.ex + 2) * (p.m + p.ey + 1)
 }

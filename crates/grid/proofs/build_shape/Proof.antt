@@ -15,7 +15,7 @@ returns-3 : tie.Need-returns-3
 returns-3 c = λ J r g w. build-empty J _ _ _ (state-none J _ w (c .before .if2 .taken)) (c .if3 .left)
 
 spell-edges-requires : tie.Need-spell-edges-requires
-spell-edges-requires c κs = ((state-working (c .before .before .before .before .before .before .before .before .before .before .before .pre .0 .job) _ (c .before .before .before .before .before .before .before .before .before .before .before .pre .0 .shaped) (c .before .before .before .before .before .before .before .if1 .left) (c .before .before .before .before .before .before .if2 .left)) .form, c .before .before .before .before .before .before .before .before .before .before .before .pre .1)
+spell-edges-requires c κs = (state-working (c .before .before .before .before .before .before .before .pre .0 .job) _ (c .before .before .before .before .before .before .before .pre .0 .shaped) (c .before .before .before .if1 .left) (c .before .before .if2 .left) .form, c .before .before .before .before .before .before .before .pre .1)
 
 same-length : tie.Need-same-length
 same-length c = search needs
@@ -24,7 +24,7 @@ same-length-2 : tie.Need-same-length-2
 same-length-2 c = search needs
 
 returns-4 : tie.Need-returns-4
-returns-4 c = λ J r g w. shaped-lined J _ r g (state-working J _ w (c .before .before .before .before .before .before .before .before .before .before .before .before .if1 .left) (c .before .before .before .before .before .before .before .before .before .before .before .if2 .left)) _ _ _ _ _ _ (c .before .before .before .before .spell-edges .ensures)
+returns-4 c = λ J r g w. shaped-lined J _ r g (state-working J _ w (c .before .before .before .before .before .before .before .before .if1 .left) (c .before .before .before .before .before .before .before .if2 .left)) _ _ _ _ _ _ (c .before .before .before .before .spell-edges .ensures)
 
 pub build-shape-spec : {M : Type 1} → statement M
 build-shape-spec =

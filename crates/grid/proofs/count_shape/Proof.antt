@@ -13,7 +13,7 @@ returns-2 : tie.Need-returns-2
 returns-2 c = λ J r w. let z = state-none J _ w (c .if2 .taken) in counts-value _ 0 z (omega arith)
 
 count-requires : tie.Need-count-requires
-count-requires c κs = state-working (c .before .before .before .before .before .before .pre .job) _ (c .before .before .before .before .before .before .pre .shaped) (c .before .before .before .before .before .if1 .left) (c .before .before .before .before .if2 .left) .form
+count-requires c κs = state-working (c .before .before .pre .job) _ (c .before .before .pre .shaped) (c .before .if1 .left) (c .if2 .left) .form
 
 enum-known-c : tie.Need-enum-known-c
 enum-known-c c = search needs
@@ -22,10 +22,10 @@ enum-told : tie.Need-enum-told
 enum-told c = search needs
 
 returns-3 : tie.Need-returns-3
-returns-3 c = λ J r w. counts-cap J _ r (state-working J _ w (c .before .before .before .before .before .before .before .before .before .if1 .left) (c .before .before .before .before .before .before .before .before .if2 .left)) _ (sym (c .before .c .given .1) ∙ c .before .before .before .count .ensures)
+returns-3 c = λ J r w. counts-cap J _ r (state-working J _ w (c .before .before .before .before .before .if1 .left) (c .before .before .before .before .if2 .left)) _ (sym (c .before .c .given .1) ∙ c .before .before .before .count .ensures)
 
 returns-4 : tie.Need-returns-4
-returns-4 c = λ J r w. counts-cap-over J _ r (state-working J _ w (c .before .before .before .before .before .before .before .before .if1 .left) (c .before .before .before .before .before .before .before .if2 .left)) (sym (c .enum-told .given .1) ∙ c .before .before .count .ensures)
+returns-4 c = λ J r w. counts-cap-over J _ r (state-working J _ w (c .before .before .before .before .if1 .left) (c .before .before .before .if2 .left)) (sym (c .enum-told .given .1) ∙ c .before .before .count .ensures)
 
 pub count-shape-spec : {M : Type 1} → statement M
 count-shape-spec =

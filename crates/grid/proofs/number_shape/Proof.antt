@@ -12,10 +12,10 @@ returns-2 : tie.Need-returns-2
 returns-2 c = λ J r g w. number-none J _ (state-none J _ w (c .if2 .taken)) (state-empty J _ w (c .if2 .taken) _)
 
 number-requires : tie.Need-number-requires
-number-requires c κs = state-working (c .before .before .before .before .before .before .before .pre .job) _ (c .before .before .before .before .before .before .before .pre .shaped) (c .before .before .before .before .before .if1 .left) (c .before .before .before .before .if2 .left) .form
+number-requires c κs = state-working (c .before .before .before .pre .job) _ (c .before .before .before .pre .shaped) (c .before .if1 .left) (c .if2 .left) .form
 
 returns-3 : tie.Need-returns-3
-returns-3 c = λ J r g w. c .number .ensures ∙ ap reply (table-is J _ _ r g (state-working J _ w (c .before .before .before .before .before .before .if1 .left) (c .before .before .before .before .before .if2 .left)))
+returns-3 c = λ J r g w. c .number .ensures ∙ ap reply (table-is J _ _ r g (state-working J _ w (c .before .before .if1 .left) (c .before .if2 .left)))
 
 pub number-shape-spec : {M : Type 1} → statement M
 number-shape-spec = tie.close (tie.spec returns returns-2 number-requires returns-3)

@@ -3,17 +3,17 @@ use native.Mathlib.Omega.{arith}
 use Prim.Native.Nat.{_-_}
 use lib.ListN.{length}
 use Rattle.lines.proofs.Lining.{Lining, lining-none, lining-room, lining-part, lining-all}
-use Rattle.grid.specs.Edges.{edgeOf}
+use Rattle.grid.specs.Plans.{edgeFor}
 use Rattle.grid.proofs.Builds.{spelling-of, front-next}
 use borrow.Author.Needs.{needs}
 use Rattle.grid.proofs.spelling.spell_all.Statement.{statement}
 use Rattle.grid.proofs.spelling.spell_all.Tie as tie
 
 abbrev Inv-loop : tie.InvT-loop
-Inv-loop val sa sc off few k f hi m ex ey corner numbers steps₀ ends₀ at₀ i₀ steps ends at i = Lining (edgeOf corner k f sa sc ex ey) numbers steps₀ ends₀ i at steps ends
+Inv-loop val sa sc off p numbers steps₀ ends₀ at₀ i₀ steps ends at i = Lining (edgeFor p sa sc) numbers steps₀ ends₀ i at steps ends
 
 abbrev μ-loop : tie.MeasureT-loop
-μ-loop val sa sc off few k f hi m ex ey corner numbers steps₀ ends₀ at₀ i₀ steps ends at i = length numbers - i
+μ-loop val sa sc off p numbers steps₀ ends₀ at₀ i₀ steps ends at i = length numbers - i
 
 loop-holds : tie.Need-loop-holds Inv-loop μ-loop
 loop-holds c = lining-none _ _ _ _ (c .before .before .before .before .pre .1)
@@ -25,25 +25,25 @@ shared-slice-read-spell-front : tie.Need-shared-slice-read-spell-front Inv-loop 
 shared-slice-read-spell-front c = search needs
 
 sub-spell-front : tie.Need-sub-spell-front Inv-loop μ-loop
-sub-spell-front c = omega (arith, (lining-room _ _ _ _ _ _ _ _ (c .before .before .loop .inv) (c .before .loop-test .taken)))
+sub-spell-front c = omega (arith, lining-room _ _ _ _ _ _ _ _ (c .before .before .loop .inv) (c .before .loop-test .taken))
 
 part-spell-front-start : tie.Need-part-spell-front-start Inv-loop μ-loop
-part-spell-front-start c = let h = (lining-room _ _ _ _ _ _ _ _ (c .before .before .loop .inv) (c .before .loop-test .taken)) in search needs
+part-spell-front-start c = let h = lining-room _ _ _ _ _ _ _ _ (c .before .before .loop .inv) (c .before .loop-test .taken) in search needs
 
 part-spell-front-end : tie.Need-part-spell-front-end Inv-loop μ-loop
-part-spell-front-end c = let h = (lining-room _ _ _ _ _ _ _ _ (c .before .before .loop .inv) (c .before .loop-test .taken)) in search needs
+part-spell-front-end c = let h = lining-room _ _ _ _ _ _ _ _ (c .before .before .loop .inv) (c .before .loop-test .taken) in search needs
 
 spell-front-requires : tie.Need-spell-front-requires Inv-loop μ-loop
-spell-front-requires c κs = (spelling-of (c .before .before .before .before .before .before .before .before .args .corner) _ _ _ _ _ _ _ _ _ _ _ _ (c .before .before .before .before .before .before .before .before .pre .0) _ (c .before .before .loop-test .taken), (lining-part _ _ _ _ _ _ _ _ (c .before .before .before .loop .inv) (c .before .before .loop-test .taken)))
+spell-front-requires c κs = (spelling-of (c .before .before .before .before .before .before .before .before .args .p .corner) _ _ _ _ _ _ _ _ _ _ _ _ (c .before .before .before .before .before .before .before .before .pre .0) _ (c .before .before .loop-test .taken), lining-part _ _ _ _ _ _ _ _ (c .before .before .before .loop .inv) (c .before .before .loop-test .taken))
 
 add-at : tie.Need-add-at Inv-loop μ-loop
-add-at c = let h = (lining-room _ _ _ _ _ _ _ _ (c .before .before .before .before .before .before .loop .inv) (c .before .before .before .before .before .loop-test .taken)) in let w = c .before .before .spell-front .ensures .short in search needs
+add-at c = let h = lining-room _ _ _ _ _ _ _ _ (c .before .before .before .before .before .before .loop .inv) (c .before .before .before .before .before .loop-test .taken) in let w = c .before .before .spell-front .ensures .short in search needs
 
 mul-ends : tie.Need-mul-ends Inv-loop μ-loop
 mul-ends c = search needs
 
 slice-write-ends : tie.Need-slice-write-ends Inv-loop μ-loop
-slice-write-ends c = omega (arith, (c .before .before .before .before .before .before .loop .inv) .as-many, c .before .before .before .before .before .before .before .before .before .before .before .pre .1 .for-ends)
+slice-write-ends c = omega (arith, c .before .before .before .before .before .before .loop .inv .as-many, c .before .before .before .before .before .before .before .before .before .before .before .pre .1 .for-ends)
 
 add-i : tie.Need-add-i Inv-loop μ-loop
 add-i c = search needs
@@ -55,13 +55,13 @@ loop-again : tie.Need-loop-again Inv-loop μ-loop
 loop-again c = front-next _ _ _ _ _ _ _ _ (c .before .before .before .before .before .before .loop .inv) _ _ (c .before .before .before .before .before .loop-test .taken) (c .before .before .spell-front .ensures)
 
 same-length : tie.Need-same-length Inv-loop μ-loop
-same-length c = (c .before .loop .inv) .as-long
+same-length c = c .before .loop .inv .as-long
 
 same-length-2 : tie.Need-same-length-2 Inv-loop μ-loop
-same-length-2 c = (c .before .loop .inv) .as-many
+same-length-2 c = c .before .loop .inv .as-many
 
 returns : tie.Need-returns Inv-loop μ-loop
-returns c = lining-all _ _ _ _ _ _ _ _ (c .before .loop .inv) (omega (arith, (c .before .loop .inv) .passed))
+returns c = lining-all _ _ _ _ _ _ _ _ (c .before .loop .inv) (omega (arith, c .before .loop .inv .passed))
 
 pub spell-all-spec : {M : Type 1} → statement M
 spell-all-spec =

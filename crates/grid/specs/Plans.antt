@@ -1,0 +1,102 @@
+-- What is said of a table by the plan of its shape.
+--
+--   strideFor p, cellsFor p           how many cells a column has, and all of the table
+--   SizesFor p                        bounds of the plan's numbers
+--   FormFor p sa sc                   the steps sa, sc with the plan's end are a form
+--   Planned sa sc p                   the steps sa, sc have the form, the steepest and the deepest step that the plan p says, and are few if it says so
+--   PlanOf s p                        the plan p is the shape s's
+--   PreparedFor, BegunFor, FilledFor, SpellingFor, SpellsFor    Prepared, Begun, Filled, Spelling and Spells by a plan
+--   countFor, numberFor p sa sc e     the count by a plan, and the number of the edge e
+--   edgeFor p sa sc r                 the edge of the number r; ListsFor, BuildsFor: those of the numbers ns written, and those or refusal 4 or 6
+--   countAt, numberAt, BuildsAt s     the same of the shape s
+--   RoomFor ns steps ends             there is room for the edges of the numbers ns
+use mathlib.Core.Path.{_≡_}
+use mathlib.Core.List.{List}
+use Prim.Native.Nat.{ℕ, _+_, _*_}
+use lib.ListN.{length}
+use Rattle.rules.specs.Refusals.{Answer}
+use Rattle.rules.specs.Refusals.Answer.{accepted}
+use Rattle.job.specs.declared.Built.{Built}
+use Rattle.job.specs.declared.Built.the-variants.{Length}
+use Rattle.lines.specs.Lines.{lined, LinedAs, Room}
+use Rattle.grid.specs.declared.Answer as counts
+use Rattle.grid.specs.declared.plan.Plan.{Plan}
+use Rattle.grid.specs.declared.shape.Shape.{Shape}
+use Rattle.grid.specs.Form.{Form, W}
+use Rattle.grid.specs.Cells.{capOf, strideOf}
+use Rattle.grid.specs.Table.{Steepest, Deepest, Few, Sizes, Prepared}
+use Rattle.grid.specs.Filling.{Begun, Filled}
+use Rattle.grid.specs.Edges.{edgeOf, Spelling}
+use Rattle.grid.specs.Numbering.{tableNumber}
+use Rattle.grid.specs.Spelling.{Spells, edgesBy, edgesFor}
+
+abbrev pub strideFor : Plan → ℕ
+strideFor p = strideOf (p .m) (p .ey)
+
+abbrev pub cellsFor : Plan → ℕ
+cellsFor p = (p .ex + 2) * strideFor p
+
+abbrev pub SizesFor : Plan → Type 0
+SizesFor p = Sizes (p .f) (p .hi) (p .m) (p .ex) (p .ey)
+
+abbrev pub FormFor : Plan → List ℕ → List ℕ → Type 0
+FormFor p sa sc = Form (p .k) (p .f) sa sc (p .top) (p .ex) (p .ey)
+
+pub record Planned (sa sc : List ℕ) (p : Plan) : Type 0 where
+  pub form : FormFor p sa sc
+  pub steep : Steepest sa sc (p .ex) (p .hi) 8
+  pub deep : Deepest sa sc (p .top) (p .ex) (p .m) 8
+  pub fewer : Few (p .few) sa (p .ex)
+
+pub record PlanOf (s : Shape) (p : Plan) : Type 0 where
+  pub planned : Planned (s .sa) (s .sc) p
+  pub corner-is : p .corner ≡ s .corner
+  pub k-is : p .k ≡ s .k
+  pub f-is : p .f ≡ s .f
+  pub ex-is : p .ex ≡ s .ex
+  pub ey-is : p .ey ≡ s .ey
+
+abbrev pub PreparedFor : Plan → List ℕ → List ℕ → List ℕ → ℕ → Type 0
+PreparedFor p sa sc off size = Prepared (p .few) (p .k) (p .f) sa sc off (p .hi) (p .m) (p .ex) (p .ey) size
+
+abbrev pub BegunFor : Plan → List ℕ → List ℕ → List ℕ → List ℕ → Type 0
+BegunFor p sa sc off val = Begun (p .few) (p .k) (p .f) sa sc off (p .hi) (p .m) (p .ex) (p .ey) val
+
+abbrev pub FilledFor : Plan → List ℕ → List ℕ → List ℕ → counts.Answer → Type 0
+FilledFor p sa sc val r = Filled (p .k) (p .f) sa sc (p .hi) (p .m) (p .ex) (p .ey) val r
+
+abbrev pub SpellingFor : Plan → List ℕ → List ℕ → List ℕ → List ℕ → ℕ → Type 0
+SpellingFor p sa sc off val r = Spelling (p .few) (p .k) (p .f) sa sc off (p .hi) (p .m) (p .ex) (p .ey) val r
+
+abbrev pub SpellsFor : Plan → List ℕ → List ℕ → List ℕ → List ℕ → List ℕ → Type 0
+SpellsFor p sa sc off val ns = Spells (p .few) (p .k) (p .f) sa sc off (p .hi) (p .m) (p .ex) (p .ey) val ns
+
+abbrev pub countFor : Plan → List ℕ → List ℕ → counts.Answer
+countFor p sa sc = capOf (W (p .k) (p .f) sa sc (p .ex) (p .ey))
+
+abbrev pub numberFor : Plan → List ℕ → List ℕ → List ℕ → Answer ℕ
+numberFor p sa sc e = tableNumber (p .corner) (p .k) (p .f) sa sc (p .ex) (p .ey) e
+
+abbrev pub edgeFor : Plan → List ℕ → List ℕ → ℕ → List ℕ
+edgeFor p sa sc r = edgeOf (p .corner) (p .k) (p .f) sa sc (p .ex) (p .ey) r
+
+abbrev pub ListsFor : Plan → List ℕ → List ℕ → List ℕ → List ℕ → List ℕ → List ℕ → List ℕ → ℕ → Type 0
+ListsFor p sa sc ns steps ends after-steps after-ends at =
+    LinedAs (lined (accepted (edgesBy (p .corner) (p .k) (p .f) sa sc (p .ex) (p .ey) ns)) steps ends) (Length at) after-steps after-ends
+
+abbrev pub BuildsFor : Plan → List ℕ → List ℕ → List ℕ → List ℕ → List ℕ → List ℕ → List ℕ → Built → Type 0
+BuildsFor p sa sc ns steps ends after-steps after-ends r =
+    LinedAs (lined (edgesFor (p .corner) (p .k) (p .f) sa sc (p .ex) (p .ey) ns) steps ends) r after-steps after-ends
+
+abbrev pub countAt : Shape → counts.Answer
+countAt s = capOf (W (s .k) (s .f) (s .sa) (s .sc) (s .ex) (s .ey))
+
+abbrev pub numberAt : Shape → List ℕ → Answer ℕ
+numberAt s e = tableNumber (s .corner) (s .k) (s .f) (s .sa) (s .sc) (s .ex) (s .ey) e
+
+abbrev pub BuildsAt : Shape → List ℕ → List ℕ → List ℕ → List ℕ → List ℕ → Built → Type 0
+BuildsAt s ns steps ends after-steps after-ends r =
+    LinedAs (lined (edgesFor (s .corner) (s .k) (s .f) (s .sa) (s .sc) (s .ex) (s .ey) ns) steps ends) r after-steps after-ends
+
+abbrev pub RoomFor : List ℕ → List ℕ → List ℕ → Type 0
+RoomFor ns steps ends = Room (length ns) (length steps) (length ends)
