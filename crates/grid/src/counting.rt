@@ -1,7 +1,7 @@
 // The count, in a table of the smallest of four sizes that has room: clearing the largest takes as long as filling a small one.
 ghost use mathlib.Core.Path.{_≡_};
 ghost use Rattle.grid.specs.Shapes.{FormOf};
-ghost use Rattle.grid.specs.Plans.{PreparedFor, BegunFor, FilledFor, countFor, countAt};
+ghost use Rattle.grid.specs.Plans.{PreparedFor, countFor, countAt};
 use crate::Answer;
 use crate::plan::Plan;
 use crate::plan::cells_of;
@@ -10,26 +10,12 @@ use crate::plan::plan_of;
 use crate::shape::Shape;
 use crate::table::fill;
 
-// The table filled by a plan; the answer is the count at the end.
-pub(crate) fn count_in(
-    val: &mut [u64],
-    sa: &[usize; 8],
-    sc: &[usize; 8],
-    off: &[usize; 8],
-    p: Plan,
-) -> Answer
-    requires { ⌜ BegunFor p (now sa) (now sc) (now off) (now val) ⌝ }
-    ensures { λ r. ⌜ FilledFor p (now (sa .entry)) (now (sc .entry)) (now (val .exit)) r ⌝ }
-{
-    fill(val, sa, sc, off, p.few, p.k, p.f, p.hi, p.m, p.ex, p.ey)
-}
-
 fn count_384(sa: &[usize; 8], sc: &[usize; 8], off: &[usize; 8], p: Plan) -> Answer
     requires { ⌜ PreparedFor p (now sa) (now sc) (now off) 384 ⌝ }
     ensures { λ r. ⌜ r ≡ countFor p (now (sa .entry)) (now (sc .entry)) ⌝ }
 {
     let mut val = [0u64; 384];
-    count_in(&mut val, sa, sc, off, p)
+    fill(&mut val, sa, sc, off, p)
 }
 
 fn count_1280(sa: &[usize; 8], sc: &[usize; 8], off: &[usize; 8], p: Plan) -> Answer
@@ -37,7 +23,7 @@ fn count_1280(sa: &[usize; 8], sc: &[usize; 8], off: &[usize; 8], p: Plan) -> An
     ensures { λ r. ⌜ r ≡ countFor p (now (sa .entry)) (now (sc .entry)) ⌝ }
 {
     let mut val = [0u64; 1280];
-    count_in(&mut val, sa, sc, off, p)
+    fill(&mut val, sa, sc, off, p)
 }
 
 fn count_2496(sa: &[usize; 8], sc: &[usize; 8], off: &[usize; 8], p: Plan) -> Answer
@@ -45,7 +31,7 @@ fn count_2496(sa: &[usize; 8], sc: &[usize; 8], off: &[usize; 8], p: Plan) -> An
     ensures { λ r. ⌜ r ≡ countFor p (now (sa .entry)) (now (sc .entry)) ⌝ }
 {
     let mut val = [0u64; 2496];
-    count_in(&mut val, sa, sc, off, p)
+    fill(&mut val, sa, sc, off, p)
 }
 
 fn count_3712(sa: &[usize; 8], sc: &[usize; 8], off: &[usize; 8], p: Plan) -> Answer
@@ -53,7 +39,7 @@ fn count_3712(sa: &[usize; 8], sc: &[usize; 8], off: &[usize; 8], p: Plan) -> An
     ensures { λ r. ⌜ r ≡ countFor p (now (sa .entry)) (now (sc .entry)) ⌝ }
 {
     let mut val = [0u64; 3712];
-    count_in(&mut val, sa, sc, off, p)
+    fill(&mut val, sa, sc, off, p)
 }
 
 // How many walks lead to the shape's end.

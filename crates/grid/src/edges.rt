@@ -3,11 +3,13 @@ ghost use mathlib.Core.Path.{_≡_};
 ghost use Prim.Native.Nat.{_≤_, _<_};
 ghost use lib.ListN.{length, drop};
 ghost use Rattle.howmany.specs.Sum.{sum};
-ghost use Rattle.grid.specs.Form.{Form, via};
+ghost use Rattle.grid.specs.Form.{via};
 ghost use Rattle.letters.specs.Letters.{glyphOf};
-ghost use Rattle.grid.specs.Edges.{isEdge, numberOf, edgeOf, Reads, Ranking, Sought, Spelling};
+ghost use Rattle.grid.specs.Edges.{Reads, Sought};
+ghost use Rattle.grid.specs.Plans.{FormFor, RankingFor, SpellingFor, validFor, rankFor, edgeFor};
 use crate::column::source;
 use crate::cone::stays;
+use crate::plan::Plan;
 use job::Step;
 use letters::place_of;
 
@@ -29,30 +31,20 @@ fn glyph_of(corner: bool, i: usize) -> u8
 }
 
 // Whether e is an edge to (ex, ey).
-pub(crate) fn valid(
-    e: &[u8],
-    corner: bool,
-    sa: &[usize; 8],
-    sc: &[usize; 8],
-    k: usize,
-    f: usize,
-    top: usize,
-    ex: usize,
-    ey: usize,
-) -> bool
-    requires { ⌜ Form k f (now sa) (now sc) top ex ey ⌝ }
-    ensures { λ r. ⌜ r ≡ isEdge corner k f (now (sa .entry)) (now (sc .entry)) ex ey (now (e .entry)) ⌝ }
+pub(crate) fn valid(e: &[u8], sa: &[usize; 8], sc: &[usize; 8], p: Plan) -> bool
+    requires { ⌜ FormFor p (now sa) (now sc) ⌝ }
+    ensures { λ r. ⌜ r ≡ validFor p (now (sa .entry)) (now (sc .entry)) (now (e .entry)) ⌝ }
 {
-    let mut x = ex;
-    let mut y = ey;
+    let mut x = p.ex;
+    let mut y = p.ey;
     let mut i = e.len();
     while 0 < i {
         i -= 1;
-        let l = place_of(corner, e[i]);
-        if !stays(f, x, y) {
+        let l = place_of(p.corner, e[i]);
+        if !stays(p.f, x, y) {
             return false;
         }
-        if k <= l {
+        if p.k <= l {
             return false;
         }
         if x < sa[l] {
@@ -100,32 +92,25 @@ pub(crate) fn rank(
     sa: &[usize; 8],
     sc: &[usize; 8],
     off: &[usize; 8],
-    few: bool,
-    k: usize,
-    f: usize,
-    hi: usize,
-    m: usize,
-    ex: usize,
-    ey: usize,
-    corner: bool,
+    p: Plan,
     e: &[u8],
 ) -> u64
-    requires { ⌜ Ranking corner few k f (now sa) (now sc) (now off) hi m ex ey (now val) (now e) ⌝ }
-    ensures { λ r. ⌜ r ≡ numberOf corner k f (now (sa .entry)) (now (sc .entry)) ex ey (now (e .entry)) ⌝ }
+    requires { ⌜ RankingFor p (now sa) (now sc) (now off) (now val) (now e) ⌝ }
+    ensures { λ r. ⌜ r ≡ rankFor p (now (sa .entry)) (now (sc .entry)) (now (e .entry)) ⌝ }
 {
     let mut acc: u64 = 0;
-    let mut x = ex;
-    let mut y = ey;
-    let mut p = (ex + 1) * (m + ey + 1) + m + ey;
+    let mut x = p.ex;
+    let mut y = p.ey;
+    let mut at = (p.ex + 1) * (p.m + p.ey + 1) + p.m + p.ey;
     let mut i = e.len();
     while 0 < i {
         i -= 1;
-        let l = place_of(corner, e[i]);
-        let v = part_sum(val, sa, sc, off, k, f, x, y, p, l);
+        let l = place_of(p.corner, e[i]);
+        let v = part_sum(val, sa, sc, off, p.k, p.f, x, y, at, l);
         acc += v;
         x -= sa[l];
         y -= sc[l];
-        p -= off[l];
+        at -= off[l];
     }
     acc
 }
@@ -176,34 +161,27 @@ pub(crate) fn spell(
     sa: &[usize; 8],
     sc: &[usize; 8],
     off: &[usize; 8],
-    few: bool,
-    k: usize,
-    f: usize,
-    hi: usize,
-    m: usize,
-    ex: usize,
-    ey: usize,
-    corner: bool,
+    p: Plan,
     r: u64,
     buf: &mut [u8],
 ) -> usize
-    requires { ⌜ Spelling few k f (now sa) (now sc) (now off) hi m ex ey (now val) r × (length (now buf) ≡ 128) ⌝ }
-    ensures { λ s. ⌜ (s ≤ 128) × (drop s (now (buf .exit)) ≡ edgeOf corner k f (now (sa .entry)) (now (sc .entry)) ex ey r) ⌝ }
+    requires { ⌜ SpellingFor p (now sa) (now sc) (now off) (now val) r × (length (now buf) ≡ 128) ⌝ }
+    ensures { λ s. ⌜ (s ≤ 128) × (drop s (now (buf .exit)) ≡ edgeFor p (now (sa .entry)) (now (sc .entry)) r) ⌝ }
 {
-    let mut x = ex;
-    let mut y = ey;
-    let mut p = (ex + 1) * (m + ey + 1) + m + ey;
+    let mut x = p.ex;
+    let mut y = p.ey;
+    let mut at = (p.ex + 1) * (p.m + p.ey + 1) + p.m + p.ey;
     let mut left = r;
     let mut s: usize = 128;
     while 0 < x {
-        let q = seek(val, sa, sc, off, k, f, x, y, p, left);
+        let q = seek(val, sa, sc, off, p.k, p.f, x, y, at, left);
         let l = q.letter;
         left = q.rest;
         s -= 1;
-        buf[s] = glyph_of(corner, l);
+        buf[s] = glyph_of(p.corner, l);
         x -= sa[l];
         y -= sc[l];
-        p -= off[l];
+        at -= off[l];
     }
     s
 }

@@ -4,7 +4,6 @@ ghost use Rattle.job.specs.Replies.{reply, numberSays};
 ghost use Rattle.grid.specs.Shapes.{FormOf};
 ghost use Rattle.grid.specs.Plans.{FormFor, PreparedFor, BegunFor, numberFor, numberAt};
 use crate::Answer;
-use crate::counting::count_in;
 use crate::edges::rank;
 use crate::edges::valid;
 use crate::plan::Plan;
@@ -12,6 +11,7 @@ use crate::plan::cells_of;
 use crate::plan::offsets;
 use crate::plan::plan_of;
 use crate::shape::Shape;
+use crate::table::fill;
 use job::Numbered;
 
 // The number of the edge over a table that is still blank.
@@ -26,27 +26,13 @@ fn number_in(
     requires { ⌜ BegunFor p (now sa) (now sc) (now off) (now val) × FormFor p (now sa) (now sc) ⌝ }
     ensures { λ r. ⌜ numberSays r ≡ reply (numberFor p (now (sa .entry)) (now (sc .entry)) (now (edge .entry))) ⌝ }
 {
-    if let Answer::Over = count_in(val, sa, sc, off, p) {
+    if let Answer::Over = fill(val, sa, sc, off, p) {
         return Numbered::Refused(4);
     }
-    if !valid(edge, p.corner, sa, sc, p.k, p.f, p.top, p.ex, p.ey) {
+    if !valid(edge, sa, sc, p) {
         return Numbered::Refused(5);
     }
-    Numbered::Number(rank(
-        val,
-        sa,
-        sc,
-        off,
-        p.few,
-        p.k,
-        p.f,
-        p.hi,
-        p.m,
-        p.ex,
-        p.ey,
-        p.corner,
-        edge,
-    ))
+    Numbered::Number(rank(val, sa, sc, off, p, edge))
 }
 
 fn number_384(sa: &[usize; 8], sc: &[usize; 8], off: &[usize; 8], p: Plan, edge: &[u8]) -> Numbered

@@ -6,9 +6,10 @@ ghost use Prim.Native.Nat.{_+_, _-_, _<_, _≤_};
 ghost use lib.Dec.{eqb};
 ghost use lib.ListN.{length, getD};
 ghost use Rattle.howmany.specs.Choose.{pick};
-ghost use Rattle.grid.specs.Filling.{Begun, Filled};
-ghost use Rattle.grid.specs.Rows.{Rises, Cornered, Rowing, Rowed, Risen};
+ghost use Rattle.grid.specs.Rows.{Rises};
+ghost use Rattle.grid.specs.Plans.{BegunFor, FilledFor, CorneredFor, RowingFor, RowedFor, RisenFor};
 use crate::Answer;
+use crate::plan::Plan;
 
 // Whether one of two steps goes up by one, and the other doesn't.
 fn rises(a: usize, b: usize) -> bool
@@ -24,28 +25,19 @@ fn rises(a: usize, b: usize) -> bool
 }
 
 // Whether the steps are those of families 1 and 3, and the end can be reached by them.
-pub(crate) fn is_corner(
-    sa: &[usize; 8],
-    sc: &[usize; 8],
-    k: usize,
-    f: usize,
-    hi: usize,
-    m: usize,
-    ex: usize,
-    ey: usize,
-) -> bool
-    ensures { λ r. ⌜ (r ≡ true → Cornered k f (now (sa .entry)) (now (sc .entry)) hi m ex ey) ⌝ }
+pub(crate) fn is_corner(sa: &[usize; 8], sc: &[usize; 8], p: Plan) -> bool
+    ensures { λ r. ⌜ (r ≡ true → CorneredFor p (now (sa .entry)) (now (sc .entry))) ⌝ }
 {
-    if hi != 6 {
+    if p.hi != 6 {
         return false;
     }
-    if m != 1 {
+    if p.m != 1 {
         return false;
     }
-    if f != 0 {
+    if p.f != 0 {
         return false;
     }
-    if ex < ey {
+    if p.ex < p.ey {
         return false;
     }
     if sa[0] != 1 {
@@ -57,10 +49,10 @@ pub(crate) fn is_corner(
     if !rises(sc[0], sc[1]) {
         return false;
     }
-    if k == 2 {
+    if p.k == 2 {
         return true;
     }
-    if k != 3 {
+    if p.k != 3 {
         return false;
     }
     if sa[2] != 2 {
@@ -94,28 +86,22 @@ fn row(
     sa: &[usize; 8],
     sc: &[usize; 8],
     off: &[usize; 8],
-    three: bool,
-    few: bool,
-    k: usize,
-    f: usize,
-    hi: usize,
-    m: usize,
-    ex: usize,
-    ey: usize,
+    p: Plan,
     y: usize,
 ) -> bool
-    requires { ⌜ Rowing three few k f (now sa) (now sc) (now off) hi m ex ey (now val) y ⌝ }
-    ensures { λ r. ⌜ Rowed k f (now (sa .entry)) (now (sc .entry)) m ex ey (now (val .exit)) y r ⌝ }
+    requires { ⌜ RowingFor p (now sa) (now sc) (now off) (now val) y ⌝ }
+    ensures { λ r. ⌜ RowedFor p (now (sa .entry)) (now (sc .entry)) (now (val .exit)) y r ⌝ }
 {
-    let stride = m + ey + 1;
-    let n = ex - ey;
-    let mut p = (y + 1) * stride + m + y;
-    let mut sum = first(val, stride, y, p);
-    val[p] = sum;
+    let stride = p.m + p.ey + 1;
+    let n = p.ex - p.ey;
+    let mut at = (y + 1) * stride + p.m + y;
+    let mut sum = first(val, stride, y, at);
+    val[at] = sum;
     let mut i = 0;
     while i < n {
-        let a = val[p - 1];
-        let b = across(val, three, stride, p);
+        let a = val[at - 1];
+        let three = p.k == 3;
+        let b = across(val, three, stride, at);
         if 18446744073709551615 - sum < a {
             return false;
         }
@@ -124,34 +110,22 @@ fn row(
             return false;
         }
         sum += b;
-        p += stride;
-        val[p] = sum;
+        at += stride;
+        val[at] = sum;
         i += 1;
     }
     true
 }
 
 // All rows: whether the count at the end fits 64 bits.
-fn all_rows(
-    val: &mut [u64],
-    sa: &[usize; 8],
-    sc: &[usize; 8],
-    off: &[usize; 8],
-    few: bool,
-    k: usize,
-    f: usize,
-    hi: usize,
-    m: usize,
-    ex: usize,
-    ey: usize,
-) -> bool
-    requires { ⌜ Begun few k f (now sa) (now sc) (now off) hi m ex ey (now val) × Cornered k f (now sa) (now sc) hi m ex ey ⌝ }
-    ensures { λ r. ⌜ Risen k f (now (sa .entry)) (now (sc .entry)) hi m ex ey (now (val .exit)) r ⌝ }
+fn all_rows(val: &mut [u64], sa: &[usize; 8], sc: &[usize; 8], off: &[usize; 8], p: Plan) -> bool
+    requires { ⌜ BegunFor p (now sa) (now sc) (now off) (now val) × CorneredFor p (now sa) (now sc) ⌝ }
+    ensures { λ r. ⌜ RisenFor p (now (sa .entry)) (now (sc .entry)) (now (val .exit)) r ⌝ }
 {
-    let three = k == 3;
+    let ey = p.ey;
     let mut y = 0;
     while y <= ey {
-        if !row(val, sa, sc, off, three, few, k, f, hi, m, ex, ey, y) {
+        if !row(val, sa, sc, off, p, y) {
             return false;
         }
         y += 1;
@@ -165,21 +139,15 @@ pub(crate) fn fill_rows(
     sa: &[usize; 8],
     sc: &[usize; 8],
     off: &[usize; 8],
-    few: bool,
-    k: usize,
-    f: usize,
-    hi: usize,
-    m: usize,
-    ex: usize,
-    ey: usize,
+    p: Plan,
 ) -> Answer
-    requires { ⌜ Begun few k f (now sa) (now sc) (now off) hi m ex ey (now val) × Cornered k f (now sa) (now sc) hi m ex ey ⌝ }
-    ensures { λ r. ⌜ Filled k f (now (sa .entry)) (now (sc .entry)) hi m ex ey (now (val .exit)) r ⌝ }
+    requires { ⌜ BegunFor p (now sa) (now sc) (now off) (now val) × CorneredFor p (now sa) (now sc) ⌝ }
+    ensures { λ r. ⌜ FilledFor p (now (sa .entry)) (now (sc .entry)) (now (val .exit)) r ⌝ }
 {
-    if !all_rows(val, sa, sc, off, few, k, f, hi, m, ex, ey) {
+    if !all_rows(val, sa, sc, off, p) {
         return Answer::Over;
     }
-    let end = (ex + 1) * (m + ey + 1) + m + ey;
+    let end = (p.ex + 1) * (p.m + p.ey + 1) + p.m + p.ey;
     let v = val[end];
     Answer::Count(v)
 }

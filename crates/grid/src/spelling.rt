@@ -5,13 +5,13 @@ ghost use Rattle.grid.specs.Shapes.{FormOf};
 ghost use Rattle.grid.specs.Spelling.{Front};
 ghost use Rattle.grid.specs.Plans.{PreparedFor, BegunFor, SpellingFor, SpellsFor, RoomFor, edgeFor, ListsFor, BuildsFor, BuildsAt};
 use crate::Answer;
-use crate::counting::count_in;
 use crate::edges::spell;
 use crate::plan::Plan;
 use crate::plan::cells_of;
 use crate::plan::offsets;
 use crate::plan::plan_of;
 use crate::shape::Shape;
+use crate::table::fill;
 use job::Built;
 
 // The edge of number r, to the front of steps; the answer is its length.
@@ -28,22 +28,7 @@ fn spell_front(
     ensures { λ n. ⌜ Front (edgeFor p (now (sa .entry)) (now (sc .entry)) r) (now (steps .entry)) (now (steps .exit)) n ⌝ }
 {
     let mut buf = [0u8; 128];
-    let at = spell(
-        val,
-        sa,
-        sc,
-        off,
-        p.few,
-        p.k,
-        p.f,
-        p.hi,
-        p.m,
-        p.ex,
-        p.ey,
-        p.corner,
-        r,
-        &mut buf,
-    );
+    let at = spell(val, sa, sc, off, p, r, &mut buf);
     job::put(&buf[at..], steps);
     128 - at
 }
@@ -87,7 +72,7 @@ fn spell_in(
     requires { ⌜ BegunFor p (now sa) (now sc) (now off) (now val) × RoomFor (now numbers) (now steps) (now ends) ⌝ }
     ensures { λ r. ⌜ BuildsFor p (now (sa .entry)) (now (sc .entry)) (now (numbers .entry)) (now (steps .entry)) (now (ends .entry)) (now (steps .exit)) (now (ends .exit)) r ⌝ }
 {
-    let Answer::Count(c) = count_in(val, sa, sc, off, p) else {
+    let Answer::Count(c) = fill(val, sa, sc, off, p) else {
         return Built::Refused(4);
     };
     if !lines::all_below(numbers, c) {

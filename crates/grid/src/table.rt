@@ -1,7 +1,6 @@
 // The table filled column by column: first without tests, and with flags from the first column that could need them.
 ghost use Prim.Native.Nat.{_+_};
-ghost use Rattle.grid.specs.Table.{Flagged};
-ghost use Rattle.grid.specs.Filling.{Begun, Before, After, Got, Resumed, Turn, Slow, Filled};
+ghost use Rattle.grid.specs.Plans.{BegunFor, BeforeFor, AfterFor, GotFor, ResumedFor, TurnFor, SlowFor, FlaggedFor, FilledFor};
 use crate::Answer;
 use crate::column::column4;
 use crate::column::column8;
@@ -11,6 +10,7 @@ use crate::cone::to_at;
 use crate::flags::cell;
 use crate::flags::put;
 use crate::flags::total;
+use crate::plan::Plan;
 use crate::rows::fill_rows;
 use crate::rows::is_corner;
 
@@ -20,26 +20,20 @@ fn step(
     sa: &[usize; 8],
     sc: &[usize; 8],
     off: &[usize; 8],
-    few: bool,
-    k: usize,
-    f: usize,
-    hi: usize,
-    m: usize,
-    ex: usize,
-    ey: usize,
+    p: Plan,
     x: usize,
 ) -> bool
-    requires { ⌜ Before few k f (now sa) (now sc) (now off) hi m ex ey (now val) x ⌝ }
-    ensures { λ r. ⌜ After k f (now (sa .entry)) (now (sc .entry)) hi m ex ey (now (val .exit)) x r ⌝ }
+    requires { ⌜ BeforeFor p (now sa) (now sc) (now off) (now val) x ⌝ }
+    ensures { λ r. ⌜ AfterFor p (now (sa .entry)) (now (sc .entry)) (now (val .exit)) x r ⌝ }
 {
-    let from = from_at(f, hi, ex, ey, x);
-    let to = to_at(f, hi, ey, x);
+    let from = from_at(p.f, p.hi, p.ex, p.ey, x);
+    let to = to_at(p.f, p.hi, p.ey, x);
     if to <= from {
         return true;
     }
-    let d = (x + 1) * (m + ey + 1) + (m + from);
+    let d = (x + 1) * (p.m + p.ey + 1) + (p.m + from);
     let n = to - from;
-    if few {
+    if p.few {
         column4(val, sa, off, x, d, n);
         if x <= 30 {
             return true;
@@ -60,24 +54,18 @@ fn slow(
     sa: &[usize; 8],
     sc: &[usize; 8],
     off: &[usize; 8],
-    few: bool,
-    k: usize,
-    f: usize,
-    hi: usize,
-    m: usize,
-    ex: usize,
-    ey: usize,
+    p: Plan,
     x: usize,
     from: usize,
     to: usize,
 )
-    requires { ⌜ Slow few k f (now sa) (now sc) (now off) hi m ex ey (now val) (now ov) x from to ⌝ }
-    ensures { λ _. ⌜ Flagged k f (now (sa .entry)) (now (sc .entry)) hi m ex ey (now (val .exit)) (now (ov .exit)) (x + 1) ⌝ }
+    requires { ⌜ SlowFor p (now sa) (now sc) (now off) (now val) (now ov) x from to ⌝ }
+    ensures { λ _. ⌜ FlaggedFor p (now (sa .entry)) (now (sc .entry)) (now (val .exit)) (now (ov .exit)) (x + 1) ⌝ }
 {
-    let base = (x + 1) * (m + ey + 1) + m;
+    let base = (x + 1) * (p.m + p.ey + 1) + p.m;
     let mut y = from;
     while y < to {
-        let r = total(val, ov, sa, sc, off, k, f, x, y, base + y);
+        let r = total(val, ov, sa, sc, off, p.k, p.f, x, y, base + y);
         put(val, ov, base + y, r);
         y += 1;
     }
@@ -90,47 +78,30 @@ fn turn(
     sa: &[usize; 8],
     sc: &[usize; 8],
     off: &[usize; 8],
-    few: bool,
-    k: usize,
-    f: usize,
-    hi: usize,
-    m: usize,
-    ex: usize,
-    ey: usize,
+    p: Plan,
     x: usize,
 )
-    requires { ⌜ Turn few k f (now sa) (now sc) (now off) hi m ex ey (now val) (now ov) x ⌝ }
-    ensures { λ _. ⌜ Flagged k f (now (sa .entry)) (now (sc .entry)) hi m ex ey (now (val .exit)) (now (ov .exit)) (x + 1) ⌝ }
+    requires { ⌜ TurnFor p (now sa) (now sc) (now off) (now val) (now ov) x ⌝ }
+    ensures { λ _. ⌜ FlaggedFor p (now (sa .entry)) (now (sc .entry)) (now (val .exit)) (now (ov .exit)) (x + 1) ⌝ }
 {
-    let from = from_at(f, hi, ex, ey, x);
-    let to = to_at(f, hi, ey, x);
+    let from = from_at(p.f, p.hi, p.ex, p.ey, x);
+    let to = to_at(p.f, p.hi, p.ey, x);
     if to <= from {
         return;
     }
-    slow(val, ov, sa, sc, off, few, k, f, hi, m, ex, ey, x, from, to);
+    slow(val, ov, sa, sc, off, p, x, from, to);
 }
 
 // The columns that need no test; the answer is the first that is not filled.
-fn fast(
-    val: &mut [u64],
-    sa: &[usize; 8],
-    sc: &[usize; 8],
-    off: &[usize; 8],
-    few: bool,
-    k: usize,
-    f: usize,
-    hi: usize,
-    m: usize,
-    ex: usize,
-    ey: usize,
-) -> usize
-    requires { ⌜ Begun few k f (now sa) (now sc) (now off) hi m ex ey (now val) ⌝ }
-    ensures { λ r. ⌜ Got k f (now (sa .entry)) (now (sc .entry)) hi m ex ey (now (val .exit)) r ⌝ }
+fn fast(val: &mut [u64], sa: &[usize; 8], sc: &[usize; 8], off: &[usize; 8], p: Plan) -> usize
+    requires { ⌜ BegunFor p (now sa) (now sc) (now off) (now val) ⌝ }
+    ensures { λ r. ⌜ GotFor p (now (sa .entry)) (now (sc .entry)) (now (val .exit)) r ⌝ }
 {
-    val[(m + ey + 1) + m] = 1;
+    let ex = p.ex;
+    val[(p.m + p.ey + 1) + p.m] = 1;
     let mut x = 1;
     while x <= ex {
-        let small = step(val, sa, sc, off, few, k, f, hi, m, ex, ey, x);
+        let small = step(val, sa, sc, off, p, x);
         x += 1;
         if !small {
             return x;
@@ -145,25 +116,20 @@ fn rest(
     sa: &[usize; 8],
     sc: &[usize; 8],
     off: &[usize; 8],
-    few: bool,
-    k: usize,
-    f: usize,
-    hi: usize,
-    m: usize,
-    ex: usize,
-    ey: usize,
+    p: Plan,
     first: usize,
 ) -> Answer
-    requires { ⌜ Resumed few k f (now sa) (now sc) (now off) hi m ex ey (now val) first ⌝ }
-    ensures { λ r. ⌜ Filled k f (now (sa .entry)) (now (sc .entry)) hi m ex ey (now (val .exit)) r ⌝ }
+    requires { ⌜ ResumedFor p (now sa) (now sc) (now off) (now val) first ⌝ }
+    ensures { λ r. ⌜ FilledFor p (now (sa .entry)) (now (sc .entry)) (now (val .exit)) r ⌝ }
 {
+    let ex = p.ex;
     let mut ov = [0u8; 3712];
     let mut x = first;
     while x <= ex {
-        turn(val, &mut ov, sa, sc, off, few, k, f, hi, m, ex, ey, x);
+        turn(val, &mut ov, sa, sc, off, p, x);
         x += 1;
     }
-    cell(val, &ov, (ex + 1) * (m + ey + 1) + m + ey)
+    cell(val, &ov, (p.ex + 1) * (p.m + p.ey + 1) + p.m + p.ey)
 }
 
 // The whole table column by column; the answer is the count at the end.
@@ -172,22 +138,16 @@ fn fill_columns(
     sa: &[usize; 8],
     sc: &[usize; 8],
     off: &[usize; 8],
-    few: bool,
-    k: usize,
-    f: usize,
-    hi: usize,
-    m: usize,
-    ex: usize,
-    ey: usize,
+    p: Plan,
 ) -> Answer
-    requires { ⌜ Begun few k f (now sa) (now sc) (now off) hi m ex ey (now val) ⌝ }
-    ensures { λ r. ⌜ Filled k f (now (sa .entry)) (now (sc .entry)) hi m ex ey (now (val .exit)) r ⌝ }
+    requires { ⌜ BegunFor p (now sa) (now sc) (now off) (now val) ⌝ }
+    ensures { λ r. ⌜ FilledFor p (now (sa .entry)) (now (sc .entry)) (now (val .exit)) r ⌝ }
 {
-    let next = fast(val, sa, sc, off, few, k, f, hi, m, ex, ey);
-    if next <= ex {
-        return rest(val, sa, sc, off, few, k, f, hi, m, ex, ey, next);
+    let next = fast(val, sa, sc, off, p);
+    if next <= p.ex {
+        return rest(val, sa, sc, off, p, next);
     }
-    let end = (ex + 1) * (m + ey + 1) + m + ey;
+    let end = (p.ex + 1) * (p.m + p.ey + 1) + p.m + p.ey;
     let v = val[end];
     Answer::Count(v)
 }
@@ -198,19 +158,13 @@ pub(crate) fn fill(
     sa: &[usize; 8],
     sc: &[usize; 8],
     off: &[usize; 8],
-    few: bool,
-    k: usize,
-    f: usize,
-    hi: usize,
-    m: usize,
-    ex: usize,
-    ey: usize,
+    p: Plan,
 ) -> Answer
-    requires { ⌜ Begun few k f (now sa) (now sc) (now off) hi m ex ey (now val) ⌝ }
-    ensures { λ r. ⌜ Filled k f (now (sa .entry)) (now (sc .entry)) hi m ex ey (now (val .exit)) r ⌝ }
+    requires { ⌜ BegunFor p (now sa) (now sc) (now off) (now val) ⌝ }
+    ensures { λ r. ⌜ FilledFor p (now (sa .entry)) (now (sc .entry)) (now (val .exit)) r ⌝ }
 {
-    if is_corner(sa, sc, k, f, hi, m, ex, ey) {
-        return fill_rows(val, sa, sc, off, few, k, f, hi, m, ex, ey);
+    if is_corner(sa, sc, p) {
+        return fill_rows(val, sa, sc, off, p);
     }
-    fill_columns(val, sa, sc, off, few, k, f, hi, m, ex, ey)
+    fill_columns(val, sa, sc, off, p)
 }

@@ -4,14 +4,14 @@ use borrow.Author.Needs.{needs}
 use Rattle.grid.proofs.counting.count_384.Statement.{statement}
 use Rattle.grid.proofs.counting.count_384.Tie as tie
 
-slice-aggregate-count-in : tie.Need-slice-aggregate-count-in
-slice-aggregate-count-in c = search needs
+slice-aggregate-fill : tie.Need-slice-aggregate-fill
+slice-aggregate-fill c = search needs
 
-count-in-requires : tie.Need-count-in-requires
-count-in-requires c κs = record { ready = c .before .pre; zero-at = zeros-at 384 }
+fill-requires : tie.Need-fill-requires
+fill-requires c κs = record { ready = c .before .pre; zero-at = zeros-at 384 }
 
 returns : tie.Need-returns
 returns c = search needs
 
 pub count-384-spec : {M : Type 1} → statement M
-count-384-spec = tie.close (tie.spec slice-aggregate-count-in count-in-requires returns)
+count-384-spec = tie.close (tie.spec slice-aggregate-fill fill-requires returns)

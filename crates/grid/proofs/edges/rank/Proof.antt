@@ -4,38 +4,38 @@ use Rattle.grid.proofs.edges.rank.Statement.{statement}
 use Rattle.grid.proofs.edges.rank.Tie as tie
 
 abbrev Inv-loop : tie.InvT-loop
-Inv-loop val sa sc off few k f hi m ex ey corner e acc₀ x₀ y₀ p₀ i₀ acc x y p i = Walking corner few k f sa sc off hi m ex ey val e acc x y p i
+Inv-loop val sa sc off p e acc₀ x₀ y₀ at₀ i₀ acc x y at i = Walking (p .corner) (p .few) (p .k) (p .f) sa sc off (p .hi) (p .m) (p .ex) (p .ey) val e acc x y at i
 
 abbrev μ-loop : tie.MeasureT-loop
-μ-loop val sa sc off few k f hi m ex ey corner e acc₀ x₀ y₀ p₀ i₀ acc x y p i = i
+μ-loop val sa sc off p e acc₀ x₀ y₀ at₀ i₀ acc x y at i = i
 
-add-p : tie.Need-add-p Inv-loop μ-loop
-add-p c =
-    record { fits = end-placed (c .before .before .pre .ready .sizes) .next }
+add-at : tie.Need-add-at Inv-loop μ-loop
+add-at c =
+    record { fits = end-placed (c .before .before .before .pre .ready .sizes) .next }
 
-add-p-2 : tie.Need-add-p-2 Inv-loop μ-loop
-add-p-2 c =
-    record { fits = end-placed (c .before .before .pre .ready .sizes) .tall }
+add-at-2 : tie.Need-add-at-2 Inv-loop μ-loop
+add-at-2 c =
+    record { fits = end-placed (c .before .before .before .before .pre .ready .sizes) .tall }
 
-add-p-3 : tie.Need-add-p-3 Inv-loop μ-loop
-add-p-3 c =
-    record { fits = end-placed (c .before .before .pre .ready .sizes) .stride }
+add-at-3 : tie.Need-add-at-3 Inv-loop μ-loop
+add-at-3 c =
+    record { fits = end-placed (c .before .before .before .before .pre .ready .sizes) .stride }
 
-mul-p : tie.Need-mul-p Inv-loop μ-loop
-mul-p c =
-    record { fits = end-placed (c .before .before .pre .ready .sizes) .column }
+mul-at : tie.Need-mul-at Inv-loop μ-loop
+mul-at c =
+    record { fits = end-placed (c .before .before .before .before .pre .ready .sizes) .column }
 
-add-p-4 : tie.Need-add-p-4 Inv-loop μ-loop
-add-p-4 c =
-    record { fits = end-placed (c .before .before .pre .ready .sizes) .base }
+add-at-4 : tie.Need-add-at-4 Inv-loop μ-loop
+add-at-4 c =
+    record { fits = end-placed (c .before .before .before .before .before .pre .ready .sizes) .base }
 
-add-p-5 : tie.Need-add-p-5 Inv-loop μ-loop
-add-p-5 c =
-    record { fits = end-placed (c .before .before .pre .ready .sizes) .cell }
+add-at-5 : tie.Need-add-at-5 Inv-loop μ-loop
+add-at-5 c =
+    record { fits = end-placed (c .before .before .before .before .before .before .pre .ready .sizes) .cell }
 
 loop-holds : tie.Need-loop-holds Inv-loop μ-loop
 loop-holds c =
-    walking-start (c .before .before .pre) _ (place-sum _ _ _ _)
+    walking-start (c .before .before .before .before .before .before .pre) _ (place-sum _ _ _ _)
 
 sub-i : tie.Need-sub-i Inv-loop μ-loop
 sub-i c =
@@ -81,16 +81,16 @@ sub-y : tie.Need-sub-y Inv-loop μ-loop
 sub-y c =
     stepped (c .before .before .before .before .before .before .loop .inv) _ (c .before .before .before .before .before .loop-test .taken) (c .before .before .before .place-of .ensures) .up
 
-mul-p-2 : tie.Need-mul-p-2 Inv-loop μ-loop
-mul-p-2 c =
+mul-at-2 : tie.Need-mul-at-2 Inv-loop μ-loop
+mul-at-2 c =
     record { fits = stepped (c .before .before .before .before .before .before .loop .inv) _ (c .before .before .before .before .before .loop-test .taken) (c .before .before .before .place-of .ensures) .byte }
 
-element-copy-out-p : tie.Need-element-copy-out-p Inv-loop μ-loop
-element-copy-out-p c =
+element-copy-out-at : tie.Need-element-copy-out-at Inv-loop μ-loop
+element-copy-out-at c =
     stepped (c .before .before .before .before .before .before .loop .inv) _ (c .before .before .before .before .before .loop-test .taken) (c .before .before .before .place-of .ensures) .eight
 
-sub-p : tie.Need-sub-p Inv-loop μ-loop
-sub-p c =
+sub-at : tie.Need-sub-at Inv-loop μ-loop
+sub-at c =
     stepped (c .before .before .before .before .before .before .before .loop .inv) _ (c .before .before .before .before .before .before .loop-test .taken) (c .before .before .before .before .place-of .ensures) .far
 
 loop-less : tie.Need-loop-less Inv-loop μ-loop
@@ -111,12 +111,12 @@ rank-spec =
     (tie.spec
     Inv-loop
     μ-loop
-    add-p
-    add-p-2
-    add-p-3
-    mul-p
-    add-p-4
-    add-p-5
+    add-at
+    add-at-2
+    add-at-3
+    mul-at
+    add-at-4
+    add-at-5
     loop-holds
     sub-i
     shared-slice-read-place-of
@@ -129,9 +129,9 @@ rank-spec =
     mul-y
     element-copy-out-y
     sub-y
-    mul-p-2
-    element-copy-out-p
-    sub-p
+    mul-at-2
+    element-copy-out-at
+    sub-at
     loop-less
     loop-again
     returns)

@@ -6,39 +6,39 @@ use Rattle.grid.proofs.edges.spell.Statement.{statement}
 use Rattle.grid.proofs.edges.spell.Tie as tie
 
 abbrev Inv-loop : tie.InvT-loop
-Inv-loop val sa sc off few k f hi m ex ey corner r buf₀ x₀ y₀ p₀ left₀ s₀ buf x y p left s =
-    (length buf ≡ length buf₀) × Writing corner few k f sa sc off hi m ex ey val r buf₀ buf x y p left s
+Inv-loop val sa sc off p r buf₀ x₀ y₀ at₀ left₀ s₀ buf x y at left s =
+    (length buf ≡ length buf₀) × Writing (p .corner) (p .few) (p .k) (p .f) sa sc off (p .hi) (p .m) (p .ex) (p .ey) val r buf₀ buf x y at left s
 
 abbrev μ-loop : tie.MeasureT-loop
-μ-loop val sa sc off few k f hi m ex ey corner r buf₀ x₀ y₀ p₀ left₀ s₀ buf x y p left s = x
+μ-loop val sa sc off p r buf₀ x₀ y₀ at₀ left₀ s₀ buf x y at left s = x
 
-add-p : tie.Need-add-p Inv-loop μ-loop
-add-p c =
-    record { fits = end-placed (c .before .before .pre .0 .ready .sizes) .next }
+add-at : tie.Need-add-at Inv-loop μ-loop
+add-at c =
+    record { fits = end-placed (c .before .before .before .pre .0 .ready .sizes) .next }
 
-add-p-2 : tie.Need-add-p-2 Inv-loop μ-loop
-add-p-2 c =
-    record { fits = end-placed (c .before .before .pre .0 .ready .sizes) .tall }
+add-at-2 : tie.Need-add-at-2 Inv-loop μ-loop
+add-at-2 c =
+    record { fits = end-placed (c .before .before .before .before .pre .0 .ready .sizes) .tall }
 
-add-p-3 : tie.Need-add-p-3 Inv-loop μ-loop
-add-p-3 c =
-    record { fits = end-placed (c .before .before .pre .0 .ready .sizes) .stride }
+add-at-3 : tie.Need-add-at-3 Inv-loop μ-loop
+add-at-3 c =
+    record { fits = end-placed (c .before .before .before .before .pre .0 .ready .sizes) .stride }
 
-mul-p : tie.Need-mul-p Inv-loop μ-loop
-mul-p c =
-    record { fits = end-placed (c .before .before .pre .0 .ready .sizes) .column }
+mul-at : tie.Need-mul-at Inv-loop μ-loop
+mul-at c =
+    record { fits = end-placed (c .before .before .before .before .pre .0 .ready .sizes) .column }
 
-add-p-4 : tie.Need-add-p-4 Inv-loop μ-loop
-add-p-4 c =
-    record { fits = end-placed (c .before .before .pre .0 .ready .sizes) .base }
+add-at-4 : tie.Need-add-at-4 Inv-loop μ-loop
+add-at-4 c =
+    record { fits = end-placed (c .before .before .before .before .before .pre .0 .ready .sizes) .base }
 
-add-p-5 : tie.Need-add-p-5 Inv-loop μ-loop
-add-p-5 c =
-    record { fits = end-placed (c .before .before .pre .0 .ready .sizes) .cell }
+add-at-5 : tie.Need-add-at-5 Inv-loop μ-loop
+add-at-5 c =
+    record { fits = end-placed (c .before .before .before .before .before .before .pre .0 .ready .sizes) .cell }
 
 loop-holds : tie.Need-loop-holds Inv-loop μ-loop
 loop-holds c =
-    (refl, writing-start (c .before .before .pre .0) (c .before .before .pre .1) _ (place-sum _ _ _ _))
+    (refl, writing-start (c .before .before .before .before .before .before .pre .0) (c .before .before .before .before .before .before .pre .1) _ (place-sum _ _ _ _))
 
 seek-requires : tie.Need-seek-requires Inv-loop μ-loop
 seek-requires c κs =
@@ -80,16 +80,16 @@ sub-y : tie.Need-sub-y Inv-loop μ-loop
 sub-y c =
     written (c .before .before .before .before .before .loop .inv .1) (c .before .before .before .before .loop-test .taken) _ _ (c .before .before .before .seek .ensures) .up
 
-mul-p-2 : tie.Need-mul-p-2 Inv-loop μ-loop
-mul-p-2 c =
+mul-at-2 : tie.Need-mul-at-2 Inv-loop μ-loop
+mul-at-2 c =
     record { fits = written (c .before .before .before .before .before .loop .inv .1) (c .before .before .before .before .loop-test .taken) _ _ (c .before .before .before .seek .ensures) .byte }
 
-element-copy-out-p : tie.Need-element-copy-out-p Inv-loop μ-loop
-element-copy-out-p c =
+element-copy-out-at : tie.Need-element-copy-out-at Inv-loop μ-loop
+element-copy-out-at c =
     written (c .before .before .before .before .before .loop .inv .1) (c .before .before .before .before .loop-test .taken) _ _ (c .before .before .before .seek .ensures) .below
 
-sub-p : tie.Need-sub-p Inv-loop μ-loop
-sub-p c =
+sub-at : tie.Need-sub-at Inv-loop μ-loop
+sub-at c =
     written (c .before .before .before .before .before .before .loop .inv .1) (c .before .before .before .before .before .loop-test .taken) _ _ (c .before .before .before .before .seek .ensures) .far
 
 loop-less : tie.Need-loop-less Inv-loop μ-loop
@@ -114,12 +114,12 @@ spell-spec =
     (tie.spec
     Inv-loop
     μ-loop
-    add-p
-    add-p-2
-    add-p-3
-    mul-p
-    add-p-4
-    add-p-5
+    add-at
+    add-at-2
+    add-at-3
+    mul-at
+    add-at-4
+    add-at-5
     loop-holds
     seek-requires
     sub-s
@@ -131,9 +131,9 @@ spell-spec =
     mul-y
     element-copy-out-y
     sub-y
-    mul-p-2
-    element-copy-out-p
-    sub-p
+    mul-at-2
+    element-copy-out-at
+    sub-at
     loop-less
     loop-again
     same-length

@@ -8,10 +8,10 @@ use Rattle.grid.proofs.edges.valid.Statement.{statement}
 use Rattle.grid.proofs.edges.valid.Tie as tie
 
 abbrev Inv-loop : tie.InvT-loop
-Inv-loop e corner sa sc k f top ex ey x₀ y₀ i₀ x y i = Checking corner k f sa sc top ex ey e x y i
+Inv-loop e sa sc p x₀ y₀ i₀ x y i = Checking (p .corner) (p .k) (p .f) sa sc (p .top) (p .ex) (p .ey) e x y i
 
 abbrev μ-loop : tie.MeasureT-loop
-μ-loop e corner sa sc k f top ex ey x₀ y₀ i₀ x y i = i
+μ-loop e sa sc p x₀ y₀ i₀ x y i = i
 
 loop-holds : tie.Need-loop-holds Inv-loop μ-loop
 loop-holds c =
@@ -39,39 +39,39 @@ returns c =
 
 returns-2 : tie.Need-returns-2 Inv-loop μ-loop
 returns-2 c =
-    not-letter (c .before .before .before .before .before .before .loop .inv) (c .before .before .before .before .before .loop-test .taken) (c .before .before .before .place-of .ensures) (holds (sym (c .before .before .stays .ensures) ∙ not-false _ (c .before .if1 .left))) (c .if2 .taken)
+    not-letter (c .before .before .before .before .before .before .before .loop .inv) (c .before .before .before .before .before .before .loop-test .taken) (c .before .before .before .before .place-of .ensures) (holds (sym (c .before .before .before .stays .ensures) ∙ not-false _ (c .before .before .if1 .left))) (c .if2 .taken)
 
 mul-if3 : tie.Need-mul-if3 Inv-loop μ-loop
 mul-if3 c =
-    omega (arith, c .if2 .left, c .before .before .before .before .before .before .loop .inv .form .most)
+    omega (arith, c .if2 .left, c .before .before .before .before .before .before .before .loop .inv .form .most)
 
 element-copy-out-if3 : tie.Need-element-copy-out-if3 Inv-loop μ-loop
 element-copy-out-if3 c =
-    omega (arith, c .if2 .left, c .before .before .before .before .before .before .loop .inv .form .most)
+    omega (arith, c .if2 .left, c .before .before .before .before .before .before .before .loop .inv .form .most)
 
 returns-3 : tie.Need-returns-3 Inv-loop μ-loop
 returns-3 c =
-    not-right (c .before .before .before .before .before .before .before .before .loop .inv) (c .before .before .before .before .before .before .before .loop-test .taken) (c .before .before .before .before .before .place-of .ensures) (holds (sym (c .before .before .before .before .stays .ensures) ∙ not-false _ (c .before .before .before .if1 .left))) (c .if3 .taken)
+    not-right (c .before .before .before .before .before .before .before .before .before .loop .inv) (c .before .before .before .before .before .before .before .before .loop-test .taken) (c .before .before .before .before .before .before .place-of .ensures) (holds (sym (c .before .before .before .before .before .stays .ensures) ∙ not-false _ (c .before .before .before .before .if1 .left))) (c .if3 .taken)
 
 mul-if4 : tie.Need-mul-if4 Inv-loop μ-loop
 mul-if4 c =
-    omega (arith, c .before .before .if2 .left, c .before .before .before .before .before .before .before .before .loop .inv .form .most)
+    omega (arith, c .before .before .if2 .left, c .before .before .before .before .before .before .before .before .before .loop .inv .form .most)
 
 element-copy-out-if4 : tie.Need-element-copy-out-if4 Inv-loop μ-loop
 element-copy-out-if4 c =
-    omega (arith, c .before .before .if2 .left, c .before .before .before .before .before .before .before .before .loop .inv .form .most)
+    omega (arith, c .before .before .if2 .left, c .before .before .before .before .before .before .before .before .before .loop .inv .form .most)
 
 returns-4 : tie.Need-returns-4 Inv-loop μ-loop
 returns-4 c =
-    not-up (c .before .before .before .before .before .before .before .before .before .before .loop .inv) (c .before .before .before .before .before .before .before .before .before .loop-test .taken) (c .before .before .before .before .before .before .before .place-of .ensures) (holds (sym (c .before .before .before .before .before .before .stays .ensures) ∙ not-false _ (c .before .before .before .before .before .if1 .left))) (c .before .before .if3 .left) (c .if4 .taken)
+    not-up (c .before .before .before .before .before .before .before .before .before .before .before .loop .inv) (c .before .before .before .before .before .before .before .before .before .before .loop-test .taken) (c .before .before .before .before .before .before .before .before .place-of .ensures) (holds (sym (c .before .before .before .before .before .before .before .stays .ensures) ∙ not-false _ (c .before .before .before .before .before .before .if1 .left))) (c .before .before .if3 .left) (c .if4 .taken)
 
 mul-x : tie.Need-mul-x Inv-loop μ-loop
 mul-x c =
-    omega (arith, c .before .before .before .before .if2 .left, c .before .before .before .before .before .before .before .before .before .before .loop .inv .form .most)
+    omega (arith, c .before .before .before .before .if2 .left, c .before .before .before .before .before .before .before .before .before .before .before .loop .inv .form .most)
 
 element-copy-out-x : tie.Need-element-copy-out-x Inv-loop μ-loop
 element-copy-out-x c =
-    omega (arith, c .before .before .before .before .if2 .left, c .before .before .before .before .before .before .before .before .before .before .loop .inv .form .most)
+    omega (arith, c .before .before .before .before .if2 .left, c .before .before .before .before .before .before .before .before .before .before .before .loop .inv .form .most)
 
 sub-x : tie.Need-sub-x Inv-loop μ-loop
 sub-x c =
@@ -79,11 +79,11 @@ sub-x c =
 
 mul-y : tie.Need-mul-y Inv-loop μ-loop
 mul-y c =
-    omega (arith, c .before .before .before .before .before .if2 .left, c .before .before .before .before .before .before .before .before .before .before .before .loop .inv .form .most)
+    omega (arith, c .before .before .before .before .before .if2 .left, c .before .before .before .before .before .before .before .before .before .before .before .before .loop .inv .form .most)
 
 element-copy-out-y : tie.Need-element-copy-out-y Inv-loop μ-loop
 element-copy-out-y c =
-    omega (arith, c .before .before .before .before .before .if2 .left, c .before .before .before .before .before .before .before .before .before .before .before .loop .inv .form .most)
+    omega (arith, c .before .before .before .before .before .if2 .left, c .before .before .before .before .before .before .before .before .before .before .before .before .loop .inv .form .most)
 
 sub-y : tie.Need-sub-y Inv-loop μ-loop
 sub-y c =
@@ -95,7 +95,7 @@ loop-less c =
 
 loop-again : tie.Need-loop-again Inv-loop μ-loop
 loop-again c =
-    checking-more (c .before .before .before .before .before .before .before .before .before .before .before .before .loop .inv) (c .before .before .before .before .before .before .before .before .before .before .before .loop-test .taken) (c .before .before .before .before .before .before .before .before .before .place-of .ensures) (holds (sym (c .before .before .before .before .before .before .before .before .stays .ensures) ∙ not-false _ (c .before .before .before .before .before .before .before .if1 .left))) (c .before .before .before .before .before .before .if2 .left) (c .before .before .before .before .if3 .left) (c .before .before .if4 .left)
+    checking-more (c .before .before .before .before .before .before .before .before .before .before .before .before .before .loop .inv) (c .before .before .before .before .before .before .before .before .before .before .before .before .loop-test .taken) (c .before .before .before .before .before .before .before .before .before .before .place-of .ensures) (holds (sym (c .before .before .before .before .before .before .before .before .before .stays .ensures) ∙ not-false _ (c .before .before .before .before .before .before .before .before .if1 .left))) (c .before .before .before .before .before .before .if2 .left) (c .before .before .before .before .if3 .left) (c .before .before .if4 .left)
 
 add-result : tie.Need-add-result Inv-loop μ-loop
 add-result c =

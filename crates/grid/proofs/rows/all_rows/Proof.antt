@@ -4,8 +4,8 @@ use native.Mathlib.Omega.{arith}
 use lib.ListN.{length}
 use borrow.Author.Needs.{needs}
 use borrow.Author.Tests.{not-false, not-true}
-use Rattle.grid.specs.Table.{Ready}
 use Rattle.grid.specs.Rows.{Rows}
+use Rattle.grid.specs.Plans.{PreparedFor}
 use Rattle.grid.proofs.Phases.{ready-len}
 use Rattle.grid.proofs.Along.{rows-none, rowing-of, risen-of, risen-over}
 use Rattle.grid.proofs.rows.all_rows.Statement.{statement}
@@ -15,10 +15,10 @@ use Rattle.grid.proofs.rows.all_rows.Lts as lts
 use Rattle.grid.proofs.rows.row.Reads as row-reads
 
 abbrev Inv-loop : tie.InvT-loop
-Inv-loop val₀ sa sc off few k f hi m ex ey three y₀ val y = (length val ≡ length val₀) × (y ≤ ey + 1) × Ready few k f sa sc off hi m ex ey val × Rows k f sa sc m ey (ex - ey) val y 0
+Inv-loop val₀ sa sc off p ey y₀ val y = (length val ≡ length val₀) × (y ≤ p .ey + 1) × PreparedFor p sa sc off (length val) × Rows (p .k) (p .f) sa sc (p .m) (p .ey) (p .ex - p .ey) val y 0
 
 abbrev μ-loop : tie.MeasureT-loop
-μ-loop val₀ sa sc off few k f hi m ex ey three y₀ val y = ey + 1 - y
+μ-loop val₀ sa sc off p ey y₀ val y = p .ey + 1 - y
 
 -- src/rows.rt:153:5
 loop-holds : tie.Need-loop-holds Inv-loop μ-loop

@@ -60,7 +60,7 @@ same-length-2 c = search needs
 
 -- src/rows.rt:163:1
 returns-2 : tie.Need-returns-2
-returns-2 c = got-filled (c .before .before .before .before .all-rows .ensures .got (not-false _ (c .before .if1 .left))) refl (λ j. omega (arith, c .before .before .slice-known2 .given j)) refl (omega arith)
+returns-2 c = got-filled (c .before .before .before .before .before .before .before .before .all-rows .ensures .got (not-false _ (c .before .before .before .before .before .if1 .left))) refl (λ j. omega (arith, c .before .before .before .before .before .before .slice-known2 .given j)) refl (omega arith)
 
 pub fill-rows-spec : {M : Type 1} → statement M
 fill-rows-spec =

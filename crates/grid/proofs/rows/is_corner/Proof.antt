@@ -68,7 +68,7 @@ returns-7 c =
 -- src/rows.rt:61:9
 returns-8 : tie.Need-returns-8
 returns-8 c =
-    λ e. two-cornered (c .before .before .before .before .before .before .before .before .before .before .before .before .if1 .left) (c .before .before .before .before .before .before .before .before .before .before .before .if2 .left) (c .before .before .before .before .before .before .before .before .before .before .if3 .left) (omega (arith, c .before .before .before .before .before .before .before .before .before .if4 .left)) (c .before .before .before .before .before .before .before .if5 .left) (c .before .before .before .before .before .if6 .left) (c .before .before .rises .ensures (not-false _ (c .before .if7 .left))) (c .if8 .taken)
+    λ e. two-cornered (c .before .before .before .before .before .before .before .before .before .before .before .before .before .before .before .before .if1 .left) (c .before .before .before .before .before .before .before .before .before .before .before .before .before .before .if2 .left) (c .before .before .before .before .before .before .before .before .before .before .before .before .if3 .left) (omega (arith, c .before .before .before .before .before .before .before .before .before .before .if4 .left)) (c .before .before .before .before .before .before .before .before .if5 .left) (c .before .before .before .before .before .before .if6 .left) (c .before .before .before .rises .ensures (not-false _ (c .before .before .if7 .left))) (c .if8 .taken)
 
 -- src/rows.rt:64:9
 returns-9 : tie.Need-returns-9
@@ -91,7 +91,7 @@ element-copy-out-result c = search needs
 -- src/rows.rt:27:1
 returns-11 : tie.Need-returns-11
 returns-11 c =
-    λ e. three-cornered (c .before .before .before .before .before .before .before .before .before .before .before .before .before .before .before .before .if1 .left) (c .before .before .before .before .before .before .before .before .before .before .before .before .before .before .before .if2 .left) (c .before .before .before .before .before .before .before .before .before .before .before .before .before .before .if3 .left) (omega (arith, c .before .before .before .before .before .before .before .before .before .before .before .before .before .if4 .left)) (c .before .before .before .before .before .before .before .before .before .before .before .if5 .left) (c .before .before .before .before .before .before .before .before .before .if6 .left) (c .before .before .before .before .before .before .rises .ensures (not-false _ (c .before .before .before .before .before .if7 .left))) (c .before .before .before .if9 .left) (c .before .if10 .left) (eqb-true _ 1 e)
+    λ e. three-cornered (c .before .before .before .before .before .before .before .before .before .before .before .before .before .before .before .before .before .before .before .before .before .if1 .left) (c .before .before .before .before .before .before .before .before .before .before .before .before .before .before .before .before .before .before .before .if2 .left) (c .before .before .before .before .before .before .before .before .before .before .before .before .before .before .before .before .before .if3 .left) (omega (arith, c .before .before .before .before .before .before .before .before .before .before .before .before .before .before .before .if4 .left)) (c .before .before .before .before .before .before .before .before .before .before .before .before .before .if5 .left) (c .before .before .before .before .before .before .before .before .before .before .before .if6 .left) (c .before .before .before .before .before .before .before .before .rises .ensures (not-false _ (c .before .before .before .before .before .before .before .if7 .left))) (c .before .before .before .if9 .left) (c .before .if10 .left) (eqb-true _ 1 e)
 
 pub is-corner-spec : {M : Type 1} → statement M
 is-corner-spec =

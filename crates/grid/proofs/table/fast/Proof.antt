@@ -2,36 +2,37 @@ use mathlib.Core.Path.{_≡_, refl}
 use Prim.Native.Nat.{_+_, _≤_, _-_}
 use native.Mathlib.Omega.{arith}
 use lib.ListN.{length, length-set}
-use Rattle.grid.specs.Table.{Ready, Table, Small}
+use Rattle.grid.specs.Table.{Table, Small}
+use Rattle.grid.specs.Plans.{PreparedFor}
 use Rattle.grid.proofs.Phases.{ready-len, first-in, begin-table, begin-small, begin-ready}
 use borrow.Author.Tests.{not-false}
 use Rattle.grid.proofs.table.fast.Statement.{statement}
 use Rattle.grid.proofs.table.fast.Tie as tie
 
 abbrev Inv-loop : tie.InvT-loop
-Inv-loop val₀ sa sc off few k f hi m ex ey x₀ val x =
-    (1 ≤ x) × (x ≤ ex + 1) × (length val ≡ length val₀) × Ready few k f sa sc off hi m ex ey val × Table k f sa sc hi m ex ey val x × Small k f sa sc hi ex ey x
+Inv-loop val₀ sa sc off p ex x₀ val x =
+    (1 ≤ x) × (x ≤ p .ex + 1) × (length val ≡ length val₀) × PreparedFor p sa sc off (length val) × Table (p .k) (p .f) sa sc (p .hi) (p .m) (p .ex) (p .ey) val x × Small (p .k) (p .f) sa sc (p .hi) (p .ex) (p .ey) x
 
 abbrev μ-loop : tie.MeasureT-loop
-μ-loop val₀ sa sc off few k f hi m ex ey x₀ val x = ex + 1 - x
+μ-loop val₀ sa sc off p ex x₀ val x = p .ex + 1 - x
 
 add-val : tie.Need-add-val Inv-loop μ-loop
-add-val c = let p = c .before .pre .ready .sizes in omega arith
+add-val c = let p = c .before .before .pre .ready .sizes in omega arith
 
 add-val-2 : tie.Need-add-val-2 Inv-loop μ-loop
-add-val-2 c = let p = c .before .pre .ready .sizes in omega arith
+add-val-2 c = let p = c .before .before .pre .ready .sizes in omega arith
 
 add-val-3 : tie.Need-add-val-3 Inv-loop μ-loop
-add-val-3 c = let p = c .before .pre .ready .sizes in omega arith
+add-val-3 c = let p = c .before .before .before .pre .ready .sizes in omega arith
 
 mul-val : tie.Need-mul-val Inv-loop μ-loop
-mul-val c = let p = c .before .pre .ready .sizes in omega arith
+mul-val c = let p = c .before .before .before .pre .ready .sizes in omega arith
 
 slice-write-val : tie.Need-slice-write-val Inv-loop μ-loop
-slice-write-val c = first-in (c .before .pre)
+slice-write-val c = first-in (c .before .before .before .pre)
 
 loop-holds : tie.Need-loop-holds Inv-loop μ-loop
-loop-holds c = (omega arith, omega arith, refl, begin-ready (c .before .pre), begin-table (c .before .pre), begin-small (c .before .pre))
+loop-holds c = (omega arith, omega arith, refl, begin-ready (c .before .before .before .pre), begin-table (c .before .before .before .pre), begin-small (c .before .before .before .pre))
 
 step-requires : tie.Need-step-requires Inv-loop μ-loop
 step-requires c κs = record { ready = c .before .before .loop .inv .3; table = c .before .before .loop .inv .4; small = c .before .before .loop .inv .5; start = c .before .before .loop .inv .0; end = c .before .loop-test .taken }
@@ -40,7 +41,7 @@ add-x : tie.Need-add-x Inv-loop μ-loop
 add-x c = let p = c .before .before .before .before .before .loop .inv .3 .sizes in omega arith
 
 same-length : tie.Need-same-length Inv-loop μ-loop
-same-length c = omega (arith, length-set (c .before .before .before .before .before .before .before .before .args .val .now) (c .before .before .before .before .before .before .before .before .args .m + c .before .before .before .before .before .before .before .before .args .ey + 1 + c .before .before .before .before .before .before .before .before .args .m) 1)
+same-length c = omega (arith, length-set (c .before .before .before .before .before .before .before .before .before .before .args .val .now) (c .before .before .before .before .before .before .before .before .before .before .args .p .m + c .before .before .before .before .before .before .before .before .before .before .args .p .ey + 1 + c .before .before .before .before .before .before .before .before .before .before .args .p .m) 1)
 
 returns : tie.Need-returns Inv-loop μ-loop
 returns c = record { table = c .before .before .before .step .ensures .table; start = omega arith; end = omega arith }
@@ -52,7 +53,7 @@ loop-again : tie.Need-loop-again Inv-loop μ-loop
 loop-again c = (omega arith, omega arith, omega arith, ready-len (c .before .before .before .before .before .before .loop .inv .3) (omega arith), c .before .before .before .step .ensures .table, c .before .before .before .step .ensures .small (not-false _ (c .if1 .left)))
 
 same-length-2 : tie.Need-same-length-2 Inv-loop μ-loop
-same-length-2 c = omega (arith, length-set (c .before .before .before .args .val .now) (c .before .before .before .args .m + c .before .before .before .args .ey + 1 + c .before .before .before .args .m) 1)
+same-length-2 c = omega (arith, length-set (c .before .before .before .before .before .args .val .now) (c .before .before .before .before .before .args .p .m + c .before .before .before .before .before .args .p .ey + 1 + c .before .before .before .before .before .args .p .m) 1)
 
 returns-2 : tie.Need-returns-2 Inv-loop μ-loop
 returns-2 c = record { table = c .before .loop .inv .4; start = c .before .loop .inv .0; end = c .before .loop .inv .1 }

@@ -9,7 +9,7 @@ fast-requires : tie.Need-fast-requires
 fast-requires c κs = search needs
 
 rest-requires : tie.Need-rest-requires
-rest-requires c κs = record { ready = ready-len (c .before .before .before .before .before .before .before .pre .ready) (omega arith); table = c .before .before .before .before .fast .ensures .table; start = c .before .before .before .before .fast .ensures .start; end = c .before .if1 .taken }
+rest-requires c κs = record { ready = ready-len (c .before .before .before .before .before .before .before .before .pre .ready) (omega arith); table = c .before .before .before .before .before .fast .ensures .table; start = c .before .before .before .before .before .fast .ensures .start; end = c .before .if1 .taken }
 
 same-length : tie.Need-same-length
 same-length c = search needs
@@ -18,25 +18,25 @@ returns : tie.Need-returns
 returns c = search needs
 
 add-end : tie.Need-add-end
-add-end c = record { fits = end-placed (c .before .before .before .before .before .before .pre .ready .sizes) .next }
+add-end c = record { fits = end-placed (c .before .before .before .before .before .before .before .before .pre .ready .sizes) .next }
 
 add-end-2 : tie.Need-add-end-2
-add-end-2 c = record { fits = end-placed (c .before .before .before .before .before .before .pre .ready .sizes) .tall }
+add-end-2 c = record { fits = end-placed (c .before .before .before .before .before .before .before .before .before .pre .ready .sizes) .tall }
 
 add-end-3 : tie.Need-add-end-3
-add-end-3 c = record { fits = end-placed (c .before .before .before .before .before .before .pre .ready .sizes) .stride }
+add-end-3 c = record { fits = end-placed (c .before .before .before .before .before .before .before .before .before .pre .ready .sizes) .stride }
 
 mul-end : tie.Need-mul-end
-mul-end c = record { fits = end-placed (c .before .before .before .before .before .before .pre .ready .sizes) .column }
+mul-end c = record { fits = end-placed (c .before .before .before .before .before .before .before .before .before .pre .ready .sizes) .column }
 
 add-end-4 : tie.Need-add-end-4
-add-end-4 c = record { fits = end-placed (c .before .before .before .before .before .before .pre .ready .sizes) .base }
+add-end-4 c = record { fits = end-placed (c .before .before .before .before .before .before .before .before .before .before .pre .ready .sizes) .base }
 
 add-end-5 : tie.Need-add-end-5
-add-end-5 c = record { fits = end-placed (c .before .before .before .before .before .before .pre .ready .sizes) .cell }
+add-end-5 c = record { fits = end-placed (c .before .before .before .before .before .before .before .before .before .before .before .pre .ready .sizes) .cell }
 
 mul-v : tie.Need-mul-v
-mul-v c = record { fits = end-placed (c .before .before .before .before .before .before .pre .ready .sizes) .byte }
+mul-v c = record { fits = end-placed (c .before .before .before .before .before .before .before .before .before .before .before .pre .ready .sizes) .byte }
 
 slice-read-v : tie.Need-slice-read-v
 slice-read-v c = search needs
@@ -45,7 +45,7 @@ same-length-2 : tie.Need-same-length-2
 same-length-2 c = search needs
 
 returns-2 : tie.Need-returns-2
-returns-2 c = got-filled (c .before .before .before .before .fast .ensures) (omega arith) (λ j. omega (arith, c .before .before .slice-known2 .given j)) refl (place-sum _ _ _ _)
+returns-2 c = got-filled (c .before .before .before .before .before .before .before .before .before .fast .ensures) (omega arith) (λ j. omega (arith, c .before .before .before .before .before .before .before .slice-known2 .given j)) refl (place-sum _ _ _ _)
 
 pub fill-columns-spec : {M : Type 1} → statement M
 fill-columns-spec =

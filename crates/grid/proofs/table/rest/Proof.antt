@@ -3,17 +3,17 @@ use Prim.Native.Nat.{_+_, _≤_, _-_}
 use native.Mathlib.Omega.{arith}
 use borrow.Author.Needs.{needs}
 use lib.ListN.{length}
-use Rattle.grid.specs.Table.{Ready, Flagged}
+use Rattle.grid.specs.Plans.{PreparedFor, FlaggedFor}
 use Rattle.grid.proofs.Phases.{ready-len, resume, flagged-filled, end-cells, end-room}
 use Rattle.grid.proofs.table.rest.Statement.{statement}
 use Rattle.grid.proofs.table.rest.Tie as tie
 
 abbrev Inv-loop : tie.InvT-loop
-Inv-loop val₀ sa sc off few k f hi m ex ey first ov₀ x₀ val ov x =
-    (1 ≤ x) × (x ≤ ex + 1) × (length val ≡ length val₀) × (length ov ≡ 3712) × Ready few k f sa sc off hi m ex ey val × Flagged k f sa sc hi m ex ey val ov x
+Inv-loop val₀ sa sc off p first ex ov₀ x₀ val ov x =
+    (1 ≤ x) × (x ≤ p .ex + 1) × (length val ≡ length val₀) × (length ov ≡ 3712) × PreparedFor p sa sc off (length val) × FlaggedFor p sa sc val ov x
 
 abbrev μ-loop : tie.MeasureT-loop
-μ-loop val₀ sa sc off few k f hi m ex ey first ov₀ x₀ val ov x = ex + 1 - x
+μ-loop val₀ sa sc off p first ex ov₀ x₀ val ov x = p .ex + 1 - x
 
 loop-holds : tie.Need-loop-holds Inv-loop μ-loop
 loop-holds c = (c .before .pre .start, omega (arith, c .before .pre .end), refl, refl, c .before .pre .ready, resume (c .before .args .val .now) (c .before .pre .table) (λ j. omega (arith, c .slice-known .given j)))
@@ -37,31 +37,31 @@ slice-aggregate-cell : tie.Need-slice-aggregate-cell Inv-loop μ-loop
 slice-aggregate-cell c = search needs
 
 add-cell : tie.Need-add-cell Inv-loop μ-loop
-add-cell c = let p = c .before .before .before .loop .inv .4 .sizes in let q = end-cells (c .before .before .before .loop .inv .4) in omega arith
+add-cell c = let p = c .before .before .before .before .loop .inv .4 .sizes in let q = end-cells (c .before .before .before .before .loop .inv .4) in omega arith
 
 add-cell-2 : tie.Need-add-cell-2 Inv-loop μ-loop
-add-cell-2 c = let p = c .before .before .before .loop .inv .4 .sizes in let q = end-cells (c .before .before .before .loop .inv .4) in omega arith
+add-cell-2 c = let p = c .before .before .before .before .before .loop .inv .4 .sizes in let q = end-cells (c .before .before .before .before .before .loop .inv .4) in omega arith
 
 add-cell-3 : tie.Need-add-cell-3 Inv-loop μ-loop
-add-cell-3 c = let p = c .before .before .before .loop .inv .4 .sizes in let q = end-cells (c .before .before .before .loop .inv .4) in omega arith
+add-cell-3 c = let p = c .before .before .before .before .before .loop .inv .4 .sizes in let q = end-cells (c .before .before .before .before .before .loop .inv .4) in omega arith
 
 mul-cell : tie.Need-mul-cell Inv-loop μ-loop
-mul-cell c = let p = c .before .before .before .loop .inv .4 .sizes in let q = end-cells (c .before .before .before .loop .inv .4) in omega arith
+mul-cell c = let p = c .before .before .before .before .before .loop .inv .4 .sizes in let q = end-cells (c .before .before .before .before .before .loop .inv .4) in omega arith
 
 add-cell-4 : tie.Need-add-cell-4 Inv-loop μ-loop
-add-cell-4 c = let p = c .before .before .before .loop .inv .4 .sizes in let q = end-cells (c .before .before .before .loop .inv .4) in omega arith
+add-cell-4 c = let p = c .before .before .before .before .before .before .loop .inv .4 .sizes in let q = end-cells (c .before .before .before .before .before .before .loop .inv .4) in omega arith
 
 add-cell-5 : tie.Need-add-cell-5 Inv-loop μ-loop
-add-cell-5 c = let p = c .before .before .before .loop .inv .4 .sizes in let q = end-cells (c .before .before .before .loop .inv .4) in omega arith
+add-cell-5 c = let p = c .before .before .before .before .before .before .before .loop .inv .4 .sizes in let q = end-cells (c .before .before .before .before .before .before .before .loop .inv .4) in omega arith
 
 cell-requires : tie.Need-cell-requires Inv-loop μ-loop
-cell-requires c κs = let q = end-cells (c .before .before .before .loop .inv .4) in let r = end-room (c .before .before .before .loop .inv .4) in (omega arith, omega arith)
+cell-requires c κs = let q = end-cells (c .before .before .before .before .before .before .before .loop .inv .4) in let r = end-room (c .before .before .before .before .before .before .before .loop .inv .4) in (omega arith, omega arith)
 
 same-length : tie.Need-same-length Inv-loop μ-loop
 same-length c = search needs
 
 returns : tie.Need-returns Inv-loop μ-loop
-returns c = flagged-filled (c .before .before .before .before .loop .val) (c .before .before .before .before .loop .ov) (c .before .before .before .before .loop .inv .5) (omega arith) (c .cell .ensures) (omega arith)
+returns c = flagged-filled (c .before .before .before .before .before .before .before .before .loop .val) (c .before .before .before .before .before .before .before .before .loop .ov) (c .before .before .before .before .before .before .before .before .loop .inv .5) (omega arith) (c .cell .ensures) (omega arith)
 
 pub rest-spec : {M : Type 1} → statement M
 rest-spec =

@@ -2,36 +2,37 @@ use mathlib.Core.Path.{_≡_, refl}
 use Prim.Native.Nat.{_≤_, _-_}
 use native.Mathlib.Omega.{arith}
 use lib.ListN.{length}
-use Rattle.grid.specs.Filling.{Slow, Part}
+use Rattle.grid.specs.Filling.{Part}
+use Rattle.grid.specs.Plans.{SlowFor}
 use Rattle.grid.proofs.Sums.{more-le, fewer-left, all-of}
 use Rattle.grid.proofs.Phases.{place-sum, slow-placed, none-yet, put-in, parts-of, part-more, slow-done}
 use Rattle.grid.proofs.table.slow.Statement.{statement}
 use Rattle.grid.proofs.table.slow.Tie as tie
 
 abbrev Inv-loop : tie.InvT-loop
-Inv-loop val₀ ov₀ sa sc off few k f hi m ex ey x from to base y₀ val ov y =
-    (from ≤ y) × (y ≤ to) × (length val ≡ length val₀) × (length ov ≡ length ov₀) × Slow few k f sa sc off hi m ex ey val₀ ov₀ x from to × Part k f sa sc m ey x from val₀ ov₀ val ov y
+Inv-loop val₀ ov₀ sa sc off p x from to base y₀ val ov y =
+    (from ≤ y) × (y ≤ to) × (length val ≡ length val₀) × (length ov ≡ length ov₀) × SlowFor p sa sc off val₀ ov₀ x from to × Part (p .k) (p .f) sa sc (p .m) (p .ey) x from val₀ ov₀ val ov y
 
 abbrev μ-loop : tie.MeasureT-loop
-μ-loop val₀ ov₀ sa sc off few k f hi m ex ey x from to base y₀ val ov y = to - y
+μ-loop val₀ ov₀ sa sc off p x from to base y₀ val ov y = to - y
 
 add-base : tie.Need-add-base Inv-loop μ-loop
 add-base c = record { fits = slow-placed (c .before .before .pre) _ (c .before .before .pre .lt) .next }
 
 add-base-2 : tie.Need-add-base-2 Inv-loop μ-loop
-add-base-2 c = record { fits = slow-placed (c .before .before .pre) _ (c .before .before .pre .lt) .tall }
+add-base-2 c = record { fits = slow-placed (c .before .before .before .pre) _ (c .before .before .before .pre .lt) .tall }
 
 add-base-3 : tie.Need-add-base-3 Inv-loop μ-loop
-add-base-3 c = record { fits = slow-placed (c .before .before .pre) _ (c .before .before .pre .lt) .stride }
+add-base-3 c = record { fits = slow-placed (c .before .before .before .pre) _ (c .before .before .before .pre .lt) .stride }
 
 mul-base : tie.Need-mul-base Inv-loop μ-loop
-mul-base c = record { fits = slow-placed (c .before .before .pre) _ (c .before .before .pre .lt) .column }
+mul-base c = record { fits = slow-placed (c .before .before .before .pre) _ (c .before .before .before .pre .lt) .column }
 
 add-base-4 : tie.Need-add-base-4 Inv-loop μ-loop
-add-base-4 c = record { fits = slow-placed (c .before .before .pre) _ (c .before .before .pre .lt) .base }
+add-base-4 c = record { fits = slow-placed (c .before .before .before .before .pre) _ (c .before .before .before .before .pre .lt) .base }
 
 loop-holds : tie.Need-loop-holds Inv-loop μ-loop
-loop-holds c = (omega arith, omega (arith, c .before .before .pre .lt), refl, refl, c .before .before .pre, none-yet (c .before .before .pre))
+loop-holds c = (omega arith, omega (arith, c .before .before .before .before .pre .lt), refl, refl, c .before .before .before .before .pre, none-yet (c .before .before .before .before .pre))
 
 add-total : tie.Need-add-total Inv-loop μ-loop
 add-total c = record { fits = slow-placed (c .before .before .before .loop .inv .4) _ (c .before .before .loop-test .taken) .cell }

@@ -23,52 +23,52 @@ add-d-3 : tie.Need-add-d-3
 add-d-3 c = search needs
 
 mul-d : tie.Need-mul-d
-mul-d c = let h = wide-enough (c .before .before .before .before .pre) in omega arith
+mul-d c = let h = wide-enough (c .before .before .before .before .before .pre) in omega arith
 
 add-d-4 : tie.Need-add-d-4
 add-d-4 c = search needs
 
 add-d-5 : tie.Need-add-d-5
-add-d-5 c = let h = wide-enough (c .before .before .before .before .pre) in omega arith
+add-d-5 c = let h = wide-enough (c .before .before .before .before .before .before .pre) in omega arith
 
 sub-n : tie.Need-sub-n
 sub-n c = search needs
 
 column4-requires : tie.Need-column4-requires
-column4-requires c κs = run4 (c .before .before .before .before .before .before .pre) (c .before .before .before .before .from-at .ensures) (c .before .before .before .to-at .ensures) (c .before .before .if1 .left) (c .before .if2 .taken)
+column4-requires c κs = run4 (c .before .before .before .before .before .before .before .before .pre) (c .before .before .before .before .before .before .from-at .ensures) (c .before .before .before .before .before .to-at .ensures) (c .before .before .before .before .if1 .left) (c .before .if2 .taken)
 
 same-length : tie.Need-same-length
 same-length c = search needs
 
 returns-2 : tie.Need-returns-2
-returns-2 c = pow4 (c .before .before .before .before .before .before .before .before .before .before .pre) (c .before .before .before .before .before .before .before .before .from-at .ensures) (c .before .before .before .before .before .before .before .to-at .ensures) (c .before .before .before .before .before .before .if1 .left) (c .before .before .before .before .before .if2 .taken) (c .before .before .before .column4 .ensures) (c .if3 .taken)
+returns-2 c = pow4 (c .before .before .before .before .before .before .before .before .before .before .before .before .pre) (c .before .before .before .before .before .before .before .before .before .before .from-at .ensures) (c .before .before .before .before .before .before .before .before .before .to-at .ensures) (c .before .before .before .before .before .before .before .before .if1 .left) (c .before .before .before .before .before .if2 .taken) (c .before .before .before .column4 .ensures) (c .if3 .taken)
 
 is-small-requires : tie.Need-is-small-requires
-is-small-requires c κs = omega (arith, run4 (c .before .before .before .before .before .before .before .before .before .before .before .pre) (c .before .before .before .before .before .before .before .before .before .from-at .ensures) (c .before .before .before .before .before .before .before .before .to-at .ensures) (c .before .before .before .before .before .before .before .if1 .left) (c .before .before .before .before .before .before .if2 .taken) .inside)
+is-small-requires c κs = omega (arith, run4 (c .before .before .before .before .before .before .before .before .before .before .before .before .before .pre) (c .before .before .before .before .before .before .before .before .before .before .before .from-at .ensures) (c .before .before .before .before .before .before .before .before .before .before .to-at .ensures) (c .before .before .before .before .before .before .before .before .before .if1 .left) (c .before .before .before .before .before .before .if2 .taken) .inside)
 
 same-length-2 : tie.Need-same-length-2
 same-length-2 c = search needs
 
 returns-3 : tie.Need-returns-3
-returns-3 c = seen4 (c .before .before .before .before .before .before .before .before .before .before .before .before .pre) (c .before .before .before .before .before .before .before .before .before .before .from-at .ensures) (c .before .before .before .before .before .before .before .before .before .to-at .ensures) (c .before .before .before .before .before .before .before .before .if1 .left) (c .before .before .before .before .before .before .before .if2 .taken) (c .before .before .before .before .before .column4 .ensures) _ (c .is-small .ensures)
+returns-3 c = seen4 (c .before .before .before .before .before .before .before .before .before .before .before .before .before .before .pre) (c .before .before .before .before .before .before .before .before .before .before .before .before .from-at .ensures) (c .before .before .before .before .before .before .before .before .before .before .before .to-at .ensures) (c .before .before .before .before .before .before .before .before .before .before .if1 .left) (c .before .before .before .before .before .before .before .if2 .taken) (c .before .before .before .before .before .column4 .ensures) _ (c .is-small .ensures)
 
 column8-requires : tie.Need-column8-requires
-column8-requires c κs = run8 (c .before .before .before .before .before .before .pre) (c .before .before .before .before .from-at .ensures) (c .before .before .before .to-at .ensures) (c .before .before .if1 .left)
+column8-requires c κs = run8 (c .before .before .before .before .before .before .before .before .pre) (c .before .before .before .before .before .before .from-at .ensures) (c .before .before .before .before .before .to-at .ensures) (c .before .before .before .before .if1 .left)
 
 same-length-3 : tie.Need-same-length-3
 same-length-3 c = search needs
 
 returns-4 : tie.Need-returns-4
-returns-4 c = pow8 (c .before .before .before .before .before .before .before .before .before .before .pre) (c .before .before .before .before .before .before .before .before .from-at .ensures) (c .before .before .before .before .before .before .before .to-at .ensures) (c .before .before .before .before .before .before .if1 .left) (c .before .before .before .column8 .ensures) (c .if4 .taken)
+returns-4 c = pow8 (c .before .before .before .before .before .before .before .before .before .before .before .before .pre) (c .before .before .before .before .before .before .before .before .before .before .from-at .ensures) (c .before .before .before .before .before .before .before .before .before .to-at .ensures) (c .before .before .before .before .before .before .before .before .if1 .left) (c .before .before .before .column8 .ensures) (c .if4 .taken)
 
 is-small-requires-2 : tie.Need-is-small-requires-2
-is-small-requires-2 c κs = omega (arith, run8 (c .before .before .before .before .before .before .before .before .before .before .before .pre) (c .before .before .before .before .before .before .before .before .before .from-at .ensures) (c .before .before .before .before .before .before .before .before .to-at .ensures) (c .before .before .before .before .before .before .before .if1 .left) .inside)
+is-small-requires-2 c κs = omega (arith, run8 (c .before .before .before .before .before .before .before .before .before .before .before .before .before .pre) (c .before .before .before .before .before .before .before .before .before .before .before .from-at .ensures) (c .before .before .before .before .before .before .before .before .before .before .to-at .ensures) (c .before .before .before .before .before .before .before .before .before .if1 .left) .inside)
 
 same-length-4 : tie.Need-same-length-4
 same-length-4 c = search needs
 
 returns-5 : tie.Need-returns-5
-returns-5 c = seen8 (c .before .before .before .before .before .before .before .before .before .before .before .before .pre) (c .before .before .before .before .before .before .before .before .before .before .from-at .ensures) (c .before .before .before .before .before .before .before .before .before .to-at .ensures) (c .before .before .before .before .before .before .before .before .if1 .left) (c .before .before .before .before .before .column8 .ensures) _ (c .is-small2 .ensures)
+returns-5 c = seen8 (c .before .before .before .before .before .before .before .before .before .before .before .before .before .before .pre) (c .before .before .before .before .before .before .before .before .before .before .before .before .from-at .ensures) (c .before .before .before .before .before .before .before .before .before .before .before .to-at .ensures) (c .before .before .before .before .before .before .before .before .before .before .if1 .left) (c .before .before .before .before .before .column8 .ensures) _ (c .is-small2 .ensures)
 
 pub step-spec : {M : Type 1} → statement M
 step-spec =
