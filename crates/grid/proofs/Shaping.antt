@@ -12,7 +12,7 @@ use mathlib.Core.Bool.{Bool, true, false, _&&_}
 use mathlib.Core.List.{List, map, reverse}
 use Prim.Native.Nat.{ℕ, zero, suc, _+_, _*_, _-_, _^_, _≤_, _<_}
 use native.Mathlib.Decide.{decLt, le-ind, ℕ-discrete}
-use native.Mathlib.Nat.{not-suc-le-zero, mul-le-mul, le-trans, le-refl}
+use native.Mathlib.Nat.{not-suc-le-zero, le-trans, le-refl}
 use native.Mathlib.Omega.{arith}
 use lib.Dec.{T, ltb, leb, eqb, leb→le, le→leb, eqb→eq, lit≤}
 use lib.IntN.{ℤ, pos, negsuc}

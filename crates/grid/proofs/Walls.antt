@@ -10,7 +10,7 @@
 --   from-fence, from-end, to-reach, to-end                   what `from_at` and `to_at` find
 --   stays-not, stays-by      what `stays` finds
 --   wall-in                  the wall lets a walk be at the heights that matter
-use mathlib.Core.Path.{_≡_, refl, sym, ap, _∙_}
+use mathlib.Core.Path.{_≡_, sym, ap, _∙_}
 use mathlib.Core.Bool.{Bool, true, false}
 use Prim.Native.Nat.{ℕ, _+_, _*_, _-_, _≤_, _<_}
 use native.Mathlib.Decide.{decLe, decLt}

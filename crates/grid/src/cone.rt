@@ -4,10 +4,10 @@ ghost use Prim.Native.Nat.{_≤_};
 ghost use Rattle.grid.specs.Form.{wall};
 ghost use Rattle.grid.specs.Table.{Fence, From, Roof, To};
 
-// The wall ROOF + g is a roof of slope g, which a walk stays below; a lesser f is a fence of slope f, which it stays above, and 0 is no wall.
+// The wall ROOF + g is a roof of slope g: no walk is above it. A lesser f is a fence of slope f: no walk is below it; 0 is no wall.
 pub(crate) const ROOF: usize = 16;
 
-// The lowest height of column x that a fence lets be.
+// The lowest height of column x that a fence allows.
 fn fence_at(f: usize, x: usize) -> usize
     requires { ⌜ (f ≤ 100) × (x ≤ 97) ⌝ }
     ensures { λ r. ⌜ Fence f x r ⌝ }
@@ -15,7 +15,7 @@ fn fence_at(f: usize, x: usize) -> usize
     if f < ROOF { f * x } else { 0 }
 }
 
-// The height y, or that of a roof at column x where it is lower.
+// The height y, or the highest of column x that a roof allows where that is lower.
 fn roof_at(f: usize, x: usize, y: usize) -> usize
     requires { ⌜ (f ≤ 100) × (x ≤ 97) ⌝ }
     ensures { λ r. ⌜ Roof f x y r ⌝ }

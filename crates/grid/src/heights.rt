@@ -1,5 +1,4 @@
 // Steps in lower heights: how far they lie above the slope of the least steep step, or below that of the steepest.
-ghost use mathlib.Core.Path.{_≡_};
 ghost use mathlib.Core.Bool.{true, false};
 ghost use Prim.Native.Nat.{_+_, _*_, _≤_};
 ghost use lib.Dec.{T};

@@ -167,14 +167,14 @@ fn lowered(s: Shape) -> Shape
     let low = lowest(&sa, &sc, k);
     let high = highest(&sa, &sc, k, s.f);
     let floor = low * s.ex;
-    let roof = high * s.ex;
+    let ceiling = high * s.ex;
     if y < floor {
         return unreached(s);
     }
-    if roof < y {
+    if ceiling < y {
         return unreached(s);
     }
-    if roof - y < y - floor {
+    if ceiling - y < y - floor {
         return seen(s, true, high);
     }
     seen(s, false, low)

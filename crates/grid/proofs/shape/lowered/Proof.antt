@@ -17,8 +17,8 @@ highest-requires c κs = search needs
 mul-floor : tie.Need-mul-floor
 mul-floor c = omega (arith, mul-le-mul (c .before .before .before .before .lowest .ensures .small) (c .before .before .before .before .before .before .before .before .before .pre .wide))
 
-mul-roof : tie.Need-mul-roof
-mul-roof c = omega (arith, mul-le-mul (c .before .before .highest .ensures .0 .small) (c .before .before .before .before .before .before .before .before .before .before .pre .wide))
+mul-ceiling : tie.Need-mul-ceiling
+mul-ceiling c = omega (arith, mul-le-mul (c .before .before .highest .ensures .0 .small) (c .before .before .before .before .before .before .before .before .before .before .pre .wide))
 
 unreached-requires : tie.Need-unreached-requires
 unreached-requires c κs = search needs
@@ -69,7 +69,7 @@ lowered-spec =
     lowest-requires
     highest-requires
     mul-floor
-    mul-roof
+    mul-ceiling
     unreached-requires
     returns
     unreached-requires-2
