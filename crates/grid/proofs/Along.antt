@@ -27,7 +27,7 @@ use Rattle.howmany.specs.Sum.{sum}
 use Rattle.grid.specs.declared.Answer.the-variants.{Over}
 use Rattle.grid.specs.Form.{W, via}
 use Rattle.grid.specs.Cells.{strideOf, place}
-use Rattle.grid.specs.Table.{Plan, Ends, Ready}
+use Rattle.grid.specs.Table.{Slopes, Ends, Ready}
 use Rattle.grid.specs.Filling.{Got, Filled}
 use Rattle.grid.specs.Rows.{Rises, Corner, Cornered, Done, Rows, Rowing, Risen}
 use Rattle.grid.proofs.Walls.{wall-level}
@@ -69,7 +69,7 @@ module _ (k f : ℕ) (sa sc : List ℕ) where
       let g : suc y - getD sc i 0 ≡ y = omega arith in
       via-in k f sa sc (suc (suc u)) (suc y) i (omega arith) (omega arith) ∙ ap₂ (W k f sa sc) e g
 
-  module _ {hi m ex : ℕ} (pl : Plan k sa sc hi m ex) (slope : hi ≡ 6) (three : Bool) (co : Corner three k f sa sc) where
+  module _ {hi m ex : ℕ} (pl : Slopes k sa sc hi m ex) (slope : hi ≡ 6) (three : Bool) (co : Corner three k f sa sc) where
     two-steps : (u y : ℕ) → via k f sa sc (suc u) y 0 + via k f sa sc (suc u) y 1 ≡ W k f sa sc u y + low u y
     two-steps u y = go (co .rise)
       where
@@ -237,7 +237,7 @@ module _ {k f : ℕ} {sa sc : List ℕ} {m ey n : ℕ} {val : List ℕ} where
       on u v (inr d) = inl (omega (arith, d .0))
 
 -- all the rows: the whole table is right
-module _ {k f : ℕ} {sa sc : List ℕ} {hi m ex ey : ℕ} {val : List ℕ} (pl : Plan k sa sc hi m ex) (slope : hi ≡ 6) (three : Bool) (co : Corner three k f sa sc) (wide : ey ≤ ex) (rs : Rows k f sa sc m ey (ex - ey) val (ey + 1) 0) where
+module _ {k f : ℕ} {sa sc : List ℕ} {hi m ex ey : ℕ} {val : List ℕ} (pl : Slopes k sa sc hi m ex) (slope : hi ≡ 6) (three : Bool) (co : Corner three k f sa sc) (wide : ey ≤ ex) (rs : Rows k f sa sc m ey (ex - ey) val (ey + 1) 0) where
   done-le : (u v : ℕ) → Done (ey + 1) 0 u v → v ≤ u → v ≤ ey
   done-le u v (inl l) a = omega arith
   done-le u v (inr d) a = absurd (omega (arith, d .0, d .1))
@@ -298,7 +298,7 @@ module _ {k f : ℕ} {sa sc : List ℕ} {m ey n : ℕ} {val : List ℕ} {y : ℕ
           same = let q : y + i ≡ x + 1 = omega arith in ap (λ (t : ℕ). t * strideOf m ey) q
 
 -- the first cell of a row is the one before it on the diagonal
-module _ {k f : ℕ} {sa sc : List ℕ} {hi m ex ey : ℕ} {val : List ℕ} (pl : Plan k sa sc hi m ex) (slope : hi ≡ 6) (three : Bool) (co : Corner three k f sa sc) {n y : ℕ} (rs : Rows k f sa sc m ey n val y 0) (in-row : y ≤ ey) (wide : ey ≤ ex) where
+module _ {k f : ℕ} {sa sc : List ℕ} {hi m ex ey : ℕ} {val : List ℕ} (pl : Slopes k sa sc hi m ex) (slope : hi ≡ 6) (three : Bool) (co : Corner three k f sa sc) {n y : ℕ} (rs : Rows k f sa sc m ey n val y 0) (in-row : y ≤ ey) (wide : ey ≤ ex) where
   pub first-is : (p : ℕ) → p ≡ place m ey y y → (y ≡ 0 → ⊥) → getD val (p - strideOf m ey - 1) 0 ≡ W k f sa sc (y + 0) y
   first-is p ep h = go y refl
     where
@@ -349,8 +349,8 @@ module _ {three few : Bool} {k f : ℕ} {sa sc off : List ℕ} {hi m ex ey y : �
   first-value p sum ep e = go (ℕ-discrete y 0)
     where
       go : Dec (y ≡ 0) → sum ≡ W k f sa sc (y + 0) y
-      go (yes z) = e ∙ rw (eq-eqb y 0 z) (first-one (w .ready .plan) (w .slope) three (w .corner) (w .rows) (w .inside) (w .wide) z)
-      go (no z) = e ∙ rw (ne-eqb y 0 z) (first-is (w .ready .plan) (w .slope) three (w .corner) (w .rows) (w .inside) (w .wide) p ep z)
+      go (yes z) = e ∙ rw (eq-eqb y 0 z) (first-one (w .ready .slopes) (w .slope) three (w .corner) (w .rows) (w .inside) (w .wide) z)
+      go (no z) = e ∙ rw (ne-eqb y 0 z) (first-is (w .ready .slopes) (w .slope) three (w .corner) (w .rows) (w .inside) (w .wide) p ep z)
 
   pub first-fits : ((j : ℕ) → getD val j 0 < 2 ^ 64) → (j sum : ℕ) → sum ≡ pick (eqb y 0) 1 (getD val j 0) → sum < 2 ^ 64
   first-fits fits j sum e = go (eqb y 0) e
@@ -421,12 +421,12 @@ module _ {three few : Bool} {k f : ℕ} {sa sc off : List ℕ} {hi m ex ey y : �
             a .is,
             eb ∙ below-is i (a .rows) (a .inside) (a .deep) p (a .at) l,
             ec ∙ by-third three,
-            corner-next k f sa sc (a .ready .plan) (a .slope) three (a .corner) (y + i) y,
+            corner-next k f sa sc (a .ready .slopes) (a .slope) three (a .corner) (y + i) y,
           ))
 
       pub along-over : 2 ^ 64 ≤ sum + b + c → 2 ^ 64 ≤ W k f sa sc ex ey
       along-over h =
-          omega (arith, next-is, corner-most k f sa sc (a .ready .plan) (a .slope) three (a .corner) (y + (i + 1)) y ey (a .inside) (a .wide) (omega arith))
+          omega (arith, next-is, corner-most k f sa sc (a .ready .slopes) (a .slope) three (a .corner) (y + (i + 1)) y ey (a .inside) (a .wide) (omega arith))
 
       pub along-next : (q s : ℕ) → q ≡ p + strideOf m ey → s ≡ sum + b + c → Along three few k f sa sc off hi m ex ey y (set val q s) q s (i + 1)
       along-next q s eq es =
@@ -454,7 +454,7 @@ rowing-of r c rs l = record { ready = r; corner = c .corner; slope = c .slope; d
 pub risen-of : {few : Bool} {k f : ℕ} {sa sc off : List ℕ} {hi m ex ey : ℕ} {val : List ℕ} {y : ℕ} → Ready few k f sa sc off hi m ex ey val → Cornered k f sa sc hi m ex ey → Rows k f sa sc m ey (ex - ey) val y 0
     → y ≡ ey + 1 → Risen k f sa sc hi m ex ey val true
 risen-of {k = k} r c rs e = record {
-  got = λ q. rows-got (r .plan) (c .slope) (eqb k 3) (c .corner) (c .wide) (rw e at rs);
+  got = λ q. rows-got (r .slopes) (c .slope) (eqb k 3) (c .corner) (c .wide) (rw e at rs);
   over = λ q. absurd (subst T q tt);
 }
 

@@ -26,7 +26,7 @@ use Rattle.backward.proofs.Grids.{grid-lawful}
 use Rattle.grid.specs.Form.{wall, stepsIn, spot, W, via}
 use Rattle.letters.specs.Letters.{glyphOf}
 use Rattle.grid.specs.Cells.{place}
-use Rattle.grid.specs.Table.{Plan}
+use Rattle.grid.specs.Table.{Slopes}
 use Rattle.grid.specs.Edges.{endOf, edgeOf, Stand, Reads, Sought, Spelling}
 use Rattle.grid.proofs.Walls.{tested, wall-start}
 use Rattle.grid.proofs.Laws.{onward, sum-more, via-in, via-left, via-under, W-start, W-out, W-step}
@@ -152,8 +152,8 @@ module _ {corner few : Bool} {k f : ℕ} {sa sc off : List ℕ} {hi m ex ey : �
   }
 
   module _ {buf : List ℕ} {x y p left s : ℕ} (w : Writing corner few k f sa sc off hi m ex ey val r buf₀ buf x y p left s) where
-    plan-of : Plan k sa sc hi m ex
-    plan-of = w .spelling .ready .plan
+    plan-of : Slopes k sa sc hi m ex
+    plan-of = w .spelling .ready .slopes
 
     pub writing-end : x ≤ 0 → (s ≤ 128) × (drop s buf ≡ edgeOf corner k f sa sc ex ey r)
     unfolding edgeOf unr

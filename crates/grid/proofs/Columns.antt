@@ -21,7 +21,7 @@ use Rattle.howmany.specs.Sum.{sum}
 use Rattle.howmany.proofs.Sums.{sum-cong}
 use Rattle.grid.specs.Form.{wall, W, via}
 use Rattle.grid.specs.Cells.{strideOf, place, sourceOf, colOf, Run, Column}
-use Rattle.grid.specs.Table.{Offsets, Plan, Ends, From, To, Cells, Sheet, Table, Small}
+use Rattle.grid.specs.Table.{Offsets, Slopes, Ends, From, To, Cells, Sheet, Table, Small}
 use Rattle.grid.proofs.Walls.{tested, wall-in}
 use Rattle.grid.proofs.Laws.{sum-le, via-any, via-left, via-under, via-in, W-out}
 use Rattle.grid.proofs.Counts.{pos-of, W-high, W-first, W-pow}
@@ -46,7 +46,7 @@ module _ (s : ℕ) where
   pub one-more : (u : ℕ) → (u + 1) * s ≡ u * s + s
   one-more u = let e : 1 * s ≡ s = omega arith in add-mul u 1 s ∙ ap (λ (z : ℕ). u * s + z) e
 
-module _ {k f : ℕ} {sa sc off : List ℕ} {hi m ex ey : ℕ} (pl : Plan k sa sc hi m ex) (of : Offsets sa sc off (strideOf m ey)) {A : Type 0} {T : ℕ → A} {at : ℕ → A} {x : ℕ} (tb : Cells T at k f sa sc hi m ex ey x) (px : 1 ≤ x) (lx : x ≤ ex) where
+module _ {k f : ℕ} {sa sc off : List ℕ} {hi m ex ey : ℕ} (pl : Slopes k sa sc hi m ex) (of : Offsets sa sc off (strideOf m ey)) {A : Type 0} {T : ℕ → A} {at : ℕ → A} {x : ℕ} (tb : Cells T at k f sa sc hi m ex ey x) (px : 1 ≤ x) (lx : x ≤ ex) where
   -- what stands where a step comes from
   module _ (from t i : ℕ) (li : i < 8) (le : from + t ≤ ey) (en : 6 * ey ≤ 6 * (from + t) + hi * (ex - x)) where
     a : ℕ
@@ -141,7 +141,7 @@ module _ {k f : ℕ} {sa sc off : List ℕ} {hi m ex ey : ℕ} (pl : Plan k sa s
         same : (u y : ℕ) → u < x + 1 → (u < x → ⊥) → Ends hi ex ey u y → at (place m ey u y) ≡ T (W k f sa sc u y)
         same u y l h en = let e : u ≡ x = omega arith in rw e (blank (place m ey x y) (omega arith) ∙ ap T (sym (none y (rw e at en))))
 
-module _ {k f : ℕ} {sa sc off : List ℕ} {hi m ex ey : ℕ} (pl : Plan k sa sc hi m ex) (of : Offsets sa sc off (strideOf m ey)) (val : List ℕ) {x : ℕ} (tb : Table k f sa sc hi m ex ey val x) (px : 1 ≤ x) (lx : x ≤ ex) where
+module _ {k f : ℕ} {sa sc off : List ℕ} {hi m ex ey : ℕ} (pl : Slopes k sa sc hi m ex) (of : Offsets sa sc off (strideOf m ey)) (val : List ℕ) {x : ℕ} (tb : Table k f sa sc hi m ex ey val x) (px : 1 ≤ x) (lx : x ≤ ex) where
   module _ (n : ℕ) (n-pos : 1 ≤ n) (n-le : n ≤ 8) (gone : (i : ℕ) → n ≤ i → i < 8 → ex < getD sa i 0) (from to : ℕ) (fr : From f hi ex ey x from) (up : To f hi ey x to) where
     ends-at : (t : ℕ) → from + t < to → Ends hi ex ey x (from + t)
     ends-at t l = (omega (arith, up .under), omega (arith, fr .ends))

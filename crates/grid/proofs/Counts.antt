@@ -19,7 +19,7 @@ use Rattle.howmany.specs.Choose.{bit}
 use Rattle.howmany.specs.Sum.{sum}
 use Rattle.howmany.proofs.Sums.{sum-none}
 use Rattle.grid.specs.Form.{wall, W, via}
-use Rattle.grid.specs.Table.{Plan}
+use Rattle.grid.specs.Table.{Slopes}
 use Rattle.grid.proofs.Walls.{tested}
 use Rattle.grid.proofs.Laws.{sum-le, sum-rest, via-any, via-left, W-sum, W-out, W-start}
 
@@ -30,10 +30,10 @@ start-le : (b : Bool) → bit b ≤ 1
 start-le true = omega arith
 start-le false = omega arith
 
-pub pos-of : {k : ℕ} {sa sc : List ℕ} {hi m ex : ℕ} → Plan k sa sc hi m ex → (i : ℕ) → i < k → 1 ≤ getD sa i 0
+pub pos-of : {k : ℕ} {sa sc : List ℕ} {hi m ex : ℕ} → Slopes k sa sc hi m ex → (i : ℕ) → i < k → 1 ≤ getD sa i 0
 pos-of pl i l = pl .pos i (omega (arith, pl .most))
 
-module _ (k f : ℕ) (sa sc : List ℕ) {hi m ex : ℕ} (pl : Plan k sa sc hi m ex) where
+module _ (k f : ℕ) (sa sc : List ℕ) {hi m ex : ℕ} (pl : Slopes k sa sc hi m ex) where
   pub W-all : (x y : ℕ) → x ≤ ex → 0 < x → T (wall f x y) → W k f sa sc x y ≡ sum (via k f sa sc x y) 8
   W-all x y e p h = W-sum k f sa sc (pos-of pl) x y (pl .most) (λ i a b. omega (arith, pl .away i a b)) p h
 

@@ -25,7 +25,7 @@ use Rattle.backward.proofs.Grids.{grid-lawful, back-count}
 use Rattle.grid.specs.Form.{wall, stepsIn, spot, W, via}
 use Rattle.letters.specs.Letters.{placeOf}
 use Rattle.grid.specs.Cells.{capOf, cellAt, strideOf, place, sourceOf}
-use Rattle.grid.specs.Table.{Plan, Prepared, Cells}
+use Rattle.grid.specs.Table.{Slopes, Prepared, Cells}
 use Rattle.grid.specs.Filling.{Solid}
 use Rattle.grid.specs.Edges.{endOf, numberOf, Stand, Reads, Ranking}
 use Rattle.grid.proofs.Walls.{tested}
@@ -105,7 +105,7 @@ cells-less s x l = record { right = λ u y h en. s .flags .right u y (omega arit
 module _ {few : Bool} {k f : ℕ} {sa sc off : List ℕ} {hi m ex ey : ℕ} {val : List ℕ} (r : Prepared few k f sa sc off hi m ex ey (length val)) (so : Solid k f sa sc hi m ex ey val) {x y p : ℕ}
     (sp : Stand k f sa sc hi m ex ey x y p) (px : 1 ≤ x) (ins : T (wall f x y)) where
   all-of : W k f sa sc x y ≡ sum (via k f sa sc x y) k
-  all-of = W-step k f sa sc (pos-of (r .plan)) x y px ins
+  all-of = W-step k f sa sc (pos-of (r .slopes)) x y px ins
 
   via-le : (i : ℕ) → i < k → via k f sa sc x y i ≤ W k f sa sc x y
   via-le i l = omega (arith, all-of, sum-below (via k f sa sc x y) i k l)
@@ -114,18 +114,18 @@ module _ {few : Bool} {k f : ℕ} {sa sc off : List ℕ} {hi m ex ey : ℕ} {val
   row-in = omega (arith, r .room, last-row x (strideOf m ey), grow (strideOf m ey) (x + 2) (ex + 2) (omega (arith, sp .end)))
 
   eight : (i : ℕ) → i < k → i < 8
-  eight i l = omega (arith, r .plan .most)
+  eight i l = omega (arith, r .slopes .most)
 
   pub reads-at : Reads k f sa sc off val x y p
   reads-at = rw (sp .at) (record {
-    most = r .plan .most;
-    back = λ i l ha. omega (arith, r .offs .is i (eight i l), r .plan .deep i (eight i l) (omega (arith, sp .end)), rows (strideOf m ey) x (getD sa i 0) ha);
+    most = r .slopes .most;
+    back = λ i l ha. omega (arith, r .offs .is i (eight i l), r .slopes .deep i (eight i l) (omega (arith, sp .end)), rows (strideOf m ey) x (getD sa i 0) ha);
     in-val = λ i l. elim (decLe (getD sa i 0) x) [
       | yes ha ↦ rw (source-in sa off x (place m ey x y) i ha) (omega (arith, row-in, sp .ends .0))
       | no ha ↦ rw (source-left sa off x (place m ey x y) i (omega arith)) (omega (arith, row-in))
     ];
     says = λ i l. cell-value _ (getD (so .ov) (sourceOf sa off x (place m ey x y) i) 0) _
-        (rw (add-zero (sourceOf sa off x (place m ey x y) i), add-zero y) at (brings (r .plan) (r .offs) (cells-less so x (sp .end)) px (sp .end) y 0 i (eight i l)
+        (rw (add-zero (sourceOf sa off x (place m ey x y) i), add-zero y) at (brings (r .slopes) (r .offs) (cells-less so x (sp .end)) px (sp .end) y 0 i (eight i l)
         (omega (arith, sp .ends .0)) (omega (arith, sp .ends .1))))
         (omega (arith, via-le i l, sp .fits));
     fits = omega (arith, all-of, sp .fits);
@@ -134,7 +134,7 @@ module _ {few : Bool} {k f : ℕ} {sa sc off : List ℕ} {hi m ex ey : ℕ} {val
   pub stand-back : (l a c o : ℕ) → l < k → a ≡ getD sa l 0 → c ≡ getD sc l 0 → o ≡ getD off l 0 → getD sa l 0 ≤ x → getD sc l 0 ≤ y → Stand k f sa sc hi m ex ey (x - a) (y - c) (p - o)
   stand-back l a c o h ea ec eo ha hc = rw (ea, ec, eo) (record {
     end = omega (arith, sp .end);
-    ends = (omega (arith, sp .ends .0), omega (arith, sp .ends .1, r .plan .steep l (eight l h) (omega (arith, sp .end)), mul-add hi (ex - x) (getD sa l 0), ap (λ (z : ℕ). hi * z) further));
+    ends = (omega (arith, sp .ends .0), omega (arith, sp .ends .1, r .slopes .steep l (eight l h) (omega (arith, sp .end)), mul-add hi (ex - x) (getD sa l 0), ap (λ (z : ℕ). hi * z) further));
     at = omega (arith, sp .at, r .offs .is l (eight l h), rows (strideOf m ey) x (getD sa l 0) ha);
     fits = omega (arith, via-le l h, sp .fits, via-in k f sa sc x y l ha hc);
   })
@@ -187,7 +187,7 @@ module _ {corner few : Bool} {k f : ℕ} {sa sc off : List ℕ} {hi m ex ey : �
   }
 
   number-small : Ranking corner few k f sa sc off hi m ex ey val e → numberOf corner k f sa sc ex ey e < 2 ^ 64
-  number-small rk = omega (arith, rk .fits, num-all corner k f sa sc e ex ey, num-below corner k f sa sc e (pos-of (rk .ready .plan)) (length e) ex ey (ok-all corner k f sa sc e ex ey ∙ rk .valid))
+  number-small rk = omega (arith, rk .fits, num-all corner k f sa sc e ex ey, num-below corner k f sa sc e (pos-of (rk .ready .slopes)) (length e) ex ey (ok-all corner k f sa sc e ex ey ∙ rk .valid))
 
   module _ {acc x y p i : ℕ} (w : Walking corner few k f sa sc off hi m ex ey val e acc x y p i) where
     pub last-in : 0 < i → i - 1 < length e
@@ -213,8 +213,8 @@ module _ {corner few : Bool} {k f : ℕ} {sa sc off : List ℕ} {hi m ex ey : �
       };
     }
       where
-        pl : Plan k sa sc hi m ex
-        pl = w .ranking .ready .plan
+        pl : Slopes k sa sc hi m ex
+        pl = w .ranking .ready .slopes
 
         re : Read corner k f sa sc e i x y l
         re = read-of corner k f sa sc e (pos-of pl) i x y l h q (w .valid)

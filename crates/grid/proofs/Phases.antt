@@ -34,7 +34,7 @@ use Rattle.grid.proofs.Counts.{pos-of, W-all}
 use Rattle.grid.proofs.Columns.{source-left, source-in, rows, grow, one-more, brings, sheet-next, sheet-same}
 
 pub ready-len : {few : Bool} {k f : ℕ} {sa sc off : List ℕ} {hi m ex ey size size′ : ℕ} → Prepared few k f sa sc off hi m ex ey size → size′ ≡ size → Prepared few k f sa sc off hi m ex ey size′
-ready-len r e = record { sizes = r .sizes; plan = r .plan; offs = r .offs; fewer = r .fewer; room = rw e (r .room) }
+ready-len r e = record { sizes = r .sizes; slopes = r .slopes; offs = r .offs; fewer = r .fewer; room = rw e (r .room) }
 
 pub place-sum : (m ey x y : ℕ) → (x + 1) * (m + ey + 1) + m + y ≡ place m ey x y
 place-sum m ey x y = omega arith
@@ -74,10 +74,10 @@ module _ {few : Bool} {k f : ℕ} {sa sc off : List ℕ} {hi m ex ey : ℕ} {val
   begin-other j h = getD-set-other val (strideOf m ey + m) j 1 0 h ∙ b .zero-at j
 
   start-off : (y : ℕ) → W k f sa sc 0 (suc y) ≡ 0
-  start-off y = W-start k f sa sc (pos-of (b .ready .plan)) (suc y) ∙ rw (ne-eqb (suc y) 0 (λ q. omega arith))
+  start-off y = W-start k f sa sc (pos-of (b .ready .slopes)) (suc y) ∙ rw (ne-eqb (suc y) 0 (λ q. omega arith))
 
   begin-at : (y : ℕ) → getD (set val (strideOf m ey + m) 1) (place m ey 0 y) 0 ≡ W k f sa sc 0 y
-  begin-at zero = let e : place m ey 0 0 ≡ strideOf m ey + m = omega arith in rw (e, getD-set-same val (strideOf m ey + m) 1 0 first-in, W-start k f sa sc (pos-of (b .ready .plan)) 0)
+  begin-at zero = let e : place m ey 0 0 ≡ strideOf m ey + m = omega arith in rw (e, getD-set-same val (strideOf m ey + m) 1 0 first-in, W-start k f sa sc (pos-of (b .ready .slopes)) 0)
   begin-at (suc y) = begin-other (place m ey 0 (suc y)) (λ q. omega arith) ∙ sym (start-off y)
 
   pub begin-table : Table k f sa sc hi m ex ey (set val (strideOf m ey + m) 1) 1
@@ -100,7 +100,7 @@ module _ {few : Bool} {k f : ℕ} {sa sc off : List ℕ} {hi m ex ey : ℕ} {val
   begin-small = record { small = λ u y l en. at-zero u y (omega arith) }
     where
       start-le : (y : ℕ) → W k f sa sc 0 y ≤ 1
-      start-le zero = omega (arith, W-start k f sa sc (pos-of (b .ready .plan)) 0)
+      start-le zero = omega (arith, W-start k f sa sc (pos-of (b .ready .slopes)) 0)
       start-le (suc y) = omega (arith, start-off y)
 
       at-zero : (u y : ℕ) → u ≡ 0 → W k f sa sc u y ≤ 2305843009213693951
@@ -129,7 +129,7 @@ module _ {few : Bool} {k f : ℕ} {sa sc off : List ℕ} {hi m ex ey : ℕ} {val
     source-lt i l =
         elim (decLe (getD sa i 0) x) [
           | yes ha ↦ rw (source-in sa off x (place m ey x y) i ha)
-              (omega (arith, s .up .under, s .turn .ready .offs .is i l, s .turn .ready .plan .pos i l, grow (strideOf m ey) 1 (getD sa i 0) (s .turn .ready .plan .pos i l), first-row))
+              (omega (arith, s .up .under, s .turn .ready .offs .is i l, s .turn .ready .slopes .pos i l, grow (strideOf m ey) 1 (getD sa i 0) (s .turn .ready .slopes .pos i l), first-row))
           | no ha ↦ rw (source-left sa off x (place m ey x y) i (omega arith)) (omega (arith, first-row))
         ]
       where
@@ -138,11 +138,11 @@ module _ {few : Bool} {k f : ℕ} {sa sc off : List ℕ} {hi m ex ey : ℕ} {val
 
     pub parts-of : (q : ℕ) → q ≡ place m ey x y → length val ≡ length val₀ → length ov ≡ length ov₀ → Parts k f sa sc off val ov x y q
     parts-of q e lv lo = rw e (record {
-      back = λ i l ha. omega (arith, s .turn .ready .offs .is i l, s .turn .ready .plan .deep i l (omega (arith, s .turn .end)), rows (strideOf m ey) x (getD sa i 0) ha);
+      back = λ i l ha. omega (arith, s .turn .ready .offs .is i l, s .turn .ready .slopes .deep i l (omega (arith, s .turn .end)), rows (strideOf m ey) x (getD sa i 0) ha);
       in-val = λ i l. omega (arith, source-lt i l, inside-at, s .turn .ready .room);
       in-ov = λ i l. omega (arith, source-lt i l, inside-at, s .turn .room);
       says = λ i l. p .before (sourceOf sa off x (place m ey x y) i) (source-lt i l)
-          ∙ rw (add-zero (sourceOf sa off x (place m ey x y) i), add-zero y) at (brings (s .turn .ready .plan) (s .turn .ready .offs) (s .turn .table .cells) (s .turn .start) (s .turn .end) y 0 i l
+          ∙ rw (add-zero (sourceOf sa off x (place m ey x y) i), add-zero y) at (brings (s .turn .ready .slopes) (s .turn .ready .offs) (s .turn .table .cells) (s .turn .start) (s .turn .end) y 0 i l
           (omega (arith, s .up .under)) (omega (arith, s .fr .ends)));
     })
 
@@ -157,11 +157,11 @@ module _ {few : Bool} {k f : ℕ} {sa sc off : List ℕ} {hi m ex ey : ℕ} {val
     }
       where
         now-at : (t : ℕ) → t ≡ y → cellAt v′ o′ (place m ey x t) ≡ capOf (W k f sa sc x t)
-        now-at t z = rw (z, ← e) (pu .here ∙ er ∙ ap capOf (sym (W-all k f sa sc (s .turn .ready .plan) x y (s .turn .end) (s .turn .start) (wall-in (s .fr) (s .up) y lf lt))))
+        now-at t z = rw (z, ← e) (pu .here ∙ er ∙ ap capOf (sym (W-all k f sa sc (s .turn .ready .slopes) x y (s .turn .end) (s .turn .start) (wall-in (s .fr) (s .up) y lf lt))))
 
   pub slow-done : {val ov : List ℕ} {y : ℕ} → Part k f sa sc m ey x from val₀ ov₀ val ov y → y ≡ to → Flagged k f sa sc hi m ex ey val ov (x + 1)
   slow-done {val} {ov} {y} p e =
-      sheet-next (s .turn .ready .plan) (s .turn .ready .offs) (s .turn .table .cells) (s .turn .start) (s .turn .end) from to (s .fr) (s .up) (s .turn .table .blank) (s .lt) (cellAt val ov)
+      sheet-next (s .turn .ready .slopes) (s .turn .ready .offs) (s .turn .table .cells) (s .turn .start) (s .turn .end) from to (s .fr) (s .up) (s .turn .table .blank) (s .lt) (cellAt val ov)
       (p .before) (λ j l. p .after j (omega arith)) (λ t h l. p .here t h (omega arith))
 
 -- total
@@ -174,7 +174,7 @@ said {val = val} {ov = ov} pa i l es er = er ∙ ap (cellAt val ov) es ∙ pa .s
 
 module _ {few : Bool} {k f : ℕ} {sa sc off : List ℕ} {hi m ex ey : ℕ} {val ov : List ℕ} {x : ℕ} (t : Turn few k f sa sc off hi m ex ey val ov x) {from to : ℕ} (fr : From f hi ex ey x from) (up : To f hi ey x to) where
   pub turn-none : to ≤ from → Flagged k f sa sc hi m ex ey val ov (x + 1)
-  turn-none l = sheet-same (t .ready .plan) (t .ready .offs) (t .table .cells) (t .start) (t .end) from to fr up (t .table .blank) l
+  turn-none l = sheet-same (t .ready .slopes) (t .ready .offs) (t .table .cells) (t .start) (t .end) from to fr up (t .table .blank) l
 
   pub turn-slow : from < to → Slow few k f sa sc off hi m ex ey val ov x from to
   turn-slow l = record { turn = t; fr = fr; up = up; lt = l }

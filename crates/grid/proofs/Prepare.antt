@@ -92,7 +92,7 @@ module _ {k f : ℕ} {sa sc : List ℕ} {top ex ey : ℕ} (fo : Form k f sa sc t
         ey-le = omega (arith, fo .ey-le);
         cells = cells-le;
       };
-      plan = record {
+      slopes = record {
         most = fo .most;
         pos = form-pos;
         away = λ i a b. omega (arith, fo .away i a b, fo .ex-le);

@@ -27,39 +27,39 @@ module _ {few : Bool} {k f : ℕ} {sa sc off : List ℕ} {hi m ex ey : ℕ} {val
   module _ {from to : ℕ} (fr : From f hi ex ey x from) (up : To f hi ey x to) where
     pub step-empty : to ≤ from → After k f sa sc hi m ex ey val x true
     step-empty l = record {
-      table = empty-table (b .ready .plan) (b .ready .offs) val (b .table) (b .start) (b .end) from to fr up l;
-      small = λ _. empty-small (b .ready .plan) (b .ready .offs) val (b .table) (b .start) (b .end) from to fr up l (b .small);
+      table = empty-table (b .ready .slopes) (b .ready .offs) val (b .table) (b .start) (b .end) from to fr up l;
+      small = λ _. empty-small (b .ready .slopes) (b .ready .offs) val (b .table) (b .start) (b .end) from to fr up l (b .small);
     }
 
     module _ (lt : from < to) where
       pub run8 : Run 8 val sa off x (place m ey x from) (to - from)
-      run8 = run-of (b .ready .plan) (b .ready .offs) val (b .table) (b .start) (b .end) 8 (omega arith) (omega arith) none-gone from to fr up lt (b .ready .room) (b .small)
+      run8 = run-of (b .ready .slopes) (b .ready .offs) val (b .table) (b .start) (b .end) 8 (omega arith) (omega arith) none-gone from to fr up lt (b .ready .room) (b .small)
 
       pub run4 : few ≡ true → Run 4 val sa off x (place m ey x from) (to - from)
-      run4 e = run-of (b .ready .plan) (b .ready .offs) val (b .table) (b .start) (b .end) 4 (omega arith) (omega arith) (b .ready .fewer .gone e) from to fr up lt (b .ready .room) (b .small)
+      run4 e = run-of (b .ready .slopes) (b .ready .offs) val (b .table) (b .start) (b .end) 4 (omega arith) (omega arith) (b .ready .fewer .gone e) from to fr up lt (b .ready .room) (b .small)
 
       module _ {val′ : List ℕ} (co : Column 8 val val′ sa off x (place m ey x from) (to - from)) where
         table8 : Table k f sa sc hi m ex ey val′ (x + 1)
-        table8 = column-table (b .ready .plan) (b .ready .offs) val (b .table) (b .start) (b .end) from to fr up 8 (omega arith) (omega arith) none-gone lt val′ co
+        table8 = column-table (b .ready .slopes) (b .ready .offs) val (b .table) (b .start) (b .end) from to fr up 8 (omega arith) (omega arith) none-gone lt val′ co
 
         pub pow8 : x ≤ 20 → After k f sa sc hi m ex ey val′ x true
-        pow8 l = record { table = table8; small = λ _. pow-small-8 (b .ready .plan) (b .ready .offs) val (b .table) (b .start) (b .end) l (b .small) }
+        pow8 l = record { table = table8; small = λ _. pow-small-8 (b .ready .slopes) (b .ready .offs) val (b .table) (b .start) (b .end) l (b .small) }
 
         pub seen8 : (r : Bool) → (r ≡ true → (i : ℕ) → i < to - from → getD val′ (place m ey x from + i) 0 ≤ 2305843009213693951) → After k f sa sc hi m ex ey val′ x r
         seen8 r all = record {
           table = table8;
-          small = λ e. most-small (b .ready .plan) (b .ready .offs) val (b .table) (b .start) (b .end) from to fr up 8 (omega arith) (omega arith) none-gone lt val′ co 2305843009213693951 (b .small) (all e) (omega arith);
+          small = λ e. most-small (b .ready .slopes) (b .ready .offs) val (b .table) (b .start) (b .end) from to fr up 8 (omega arith) (omega arith) none-gone lt val′ co 2305843009213693951 (b .small) (all e) (omega arith);
         }
 
       module _ (e : few ≡ true) {val′ : List ℕ} (co : Column 4 val val′ sa off x (place m ey x from) (to - from)) where
         table4 : Table k f sa sc hi m ex ey val′ (x + 1)
-        table4 = column-table (b .ready .plan) (b .ready .offs) val (b .table) (b .start) (b .end) from to fr up 4 (omega arith) (omega arith) (b .ready .fewer .gone e) lt val′ co
+        table4 = column-table (b .ready .slopes) (b .ready .offs) val (b .table) (b .start) (b .end) from to fr up 4 (omega arith) (omega arith) (b .ready .fewer .gone e) lt val′ co
 
         pub pow4 : x ≤ 30 → After k f sa sc hi m ex ey val′ x true
-        pow4 l = record { table = table4; small = λ _. pow-small-4 (b .ready .plan) (b .ready .offs) val (b .table) (b .start) (b .end) (b .ready .fewer .gone e) l (b .small) }
+        pow4 l = record { table = table4; small = λ _. pow-small-4 (b .ready .slopes) (b .ready .offs) val (b .table) (b .start) (b .end) (b .ready .fewer .gone e) l (b .small) }
 
         pub seen4 : (r : Bool) → (r ≡ true → (i : ℕ) → i < to - from → getD val′ (place m ey x from + i) 0 ≤ 2305843009213693951) → After k f sa sc hi m ex ey val′ x r
         seen4 r all = record {
           table = table4;
-          small = λ q. most-small (b .ready .plan) (b .ready .offs) val (b .table) (b .start) (b .end) from to fr up 4 (omega arith) (omega arith) (b .ready .fewer .gone e) lt val′ co 2305843009213693951 (b .small) (all q) (omega arith);
+          small = λ q. most-small (b .ready .slopes) (b .ready .offs) val (b .table) (b .start) (b .end) from to fr up 4 (omega arith) (omega arith) (b .ready .fewer .gone e) lt val′ co 2305843009213693951 (b .small) (all q) (omega arith);
         }

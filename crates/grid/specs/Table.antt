@@ -3,7 +3,7 @@
 --   Steepest, Deepest    six times the steepest of the first n steps that are there, and the deepest
 --   Offsets              how far back each step's cells lie
 --   Few                  where few is true, only the first four steps are there
---   Plan                 hi is six times the steepest step, m the deepest; what isn't there is too far
+--   Slopes               hi is six times the steepest step, m the deepest; what isn't there is too far
 --   Sizes                bounds of the numbers, so that no place of a cell is above 64 bits
 --   Ready, Prepared      all of these, for a table of values and for a table of that size
 --   Ends hi ex ey u y    from height y of column u the end's height can still be reached
@@ -37,7 +37,7 @@ pub record Offsets (sa sc off : List ℕ) (stride : ℕ) : Type 0 where
 pub record Few (few : Bool) (sa : List ℕ) (ex : ℕ) : Type 0 where
   pub gone : few ≡ true → (i : ℕ) → 4 ≤ i → i < 8 → ex < getD sa i 0
 
-pub record Plan (k : ℕ) (sa sc : List ℕ) (hi m ex : ℕ) : Type 0 where
+pub record Slopes (k : ℕ) (sa sc : List ℕ) (hi m ex : ℕ) : Type 0 where
   pub most : k ≤ 8
   pub pos : (i : ℕ) → i < 8 → 1 ≤ getD sa i 0
   pub away : (i : ℕ) → k ≤ i → i < 8 → ex < getD sa i 0
@@ -54,7 +54,7 @@ pub record Sizes (f hi m ex ey : ℕ) : Type 0 where
 
 pub record Prepared (few : Bool) (k f : ℕ) (sa sc off : List ℕ) (hi m ex ey size : ℕ) : Type 0 where
   pub sizes : Sizes f hi m ex ey
-  pub plan : Plan k sa sc hi m ex
+  pub slopes : Slopes k sa sc hi m ex
   pub offs : Offsets sa sc off (strideOf m ey)
   pub fewer : Few few sa ex
   pub room : (ex + 2) * strideOf m ey ≤ size
