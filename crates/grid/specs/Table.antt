@@ -7,7 +7,8 @@
 --   Sizes                bounds of the numbers, so that no place of a cell is above 64 bits
 --   Ready, Prepared      all of these, for a table of values and for a table of that size
 --   Ends hi ex ey u y    from height y of column u the end's height can still be reached
---   Fence, Roof          below a fence, and above a roof, no walk may be; Roof: or above the height y
+--   Fence f x r          r is the lowest height of column x that the wall f allows if it is a fence, else 0
+--   Roof f x y r         r is the highest that it allows if it is a roof, or y where that is lower
 --   From, To             where the heights of column x that matter begin, and end
 --   Cells T at           the columns before x are right, as far as they can matter; at is what a cell says, T how it says a number
 --   Sheet T at           the same, and every cell of the columns from x on says 0
