@@ -25,8 +25,7 @@ use Rattle.backward.proofs.Grids.{grid-lawful, back-count}
 use Rattle.grid.specs.Form.{wall, stepsIn, spot, W, via}
 use Rattle.letters.specs.Letters.{placeOf}
 use Rattle.grid.specs.Cells.{capOf, cellAt, strideOf, place, sourceOf}
-use Rattle.grid.specs.Table.{Plan, Prepared, Cells}
-use Rattle.grid.specs.Filling.{Solid}
+use Rattle.grid.specs.Table.{Plan, Prepared, Cells, Solid}
 use Rattle.grid.specs.Edges.{endOf, numberOf, Stand, Reads, Ranking}
 use Rattle.grid.proofs.Walls.{tested}
 use Rattle.grid.proofs.Laws.{onward, sum-more, via-in, W-step, cell-value}

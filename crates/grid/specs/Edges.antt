@@ -23,8 +23,7 @@ use Rattle.backward.specs.Grid.{Spot, grid, way}
 use Rattle.grid.specs.Form.{stepsIn, spot, W, via}
 use Rattle.letters.specs.Letters.{glyphOf, wordOf}
 use Rattle.grid.specs.Cells.{sourceOf, place}
-use Rattle.grid.specs.Table.{Ready, Ends}
-use Rattle.grid.specs.Filling.{Solid}
+use Rattle.grid.specs.Table.{Ready, Ends, Solid}
 
 abbrev pub endOf : ℕ → ℕ → List ℕ → List ℕ → ℕ → ℕ → Option Spot
 endOf k f sa sc x y = enter (grid (stepsIn k f sa sc)) (way (stepsIn k f sa sc)) (spot x y)

@@ -17,8 +17,7 @@ use Rattle.rules.specs.Answers.{most}
 use Rattle.rules.specs.Questions.{allBelow}
 use Rattle.grid.specs.Form.{W}
 use Rattle.grid.specs.Edges.{edgeOf}
-use Rattle.grid.specs.Table.{Ready}
-use Rattle.grid.specs.Filling.{Solid}
+use Rattle.grid.specs.Table.{Ready, Solid}
 
 pub record Front (e old new : List ℕ) (n : ℕ) : Type 0 where
   pub shown : new ≡ e ++ drop n old

@@ -6,8 +6,8 @@ ghost use Prim.Native.Nat.{_+_, _-_, _<_, _≤_};
 ghost use lib.Dec.{eqb};
 ghost use lib.ListN.{length, getD};
 ghost use Rattle.howmany.specs.Choose.{pick};
-ghost use Rattle.grid.specs.Rows.{Rises};
-ghost use Rattle.grid.specs.Plans.{BegunFor, FilledFor, CorneredFor, RowingFor, RowedFor, RisenFor};
+ghost use Rattle.grid.specs.Filling.{Begun, Filled};
+ghost use Rattle.grid.specs.Rows.{Rises, Cornered, Rowing, Rowed, Risen};
 use crate::Answer;
 use crate::plan::Plan;
 
@@ -26,7 +26,7 @@ fn rises(a: usize, b: usize) -> bool
 
 // Whether the steps are those of families 1 and 3, and the end can be reached by them.
 pub(crate) fn is_corner(sa: &[usize; 8], sc: &[usize; 8], p: Plan) -> bool
-    ensures { λ r. ⌜ (r ≡ true → CorneredFor p (now (sa .entry)) (now (sc .entry))) ⌝ }
+    ensures { λ r. ⌜ (r ≡ true → Cornered p (now (sa .entry)) (now (sc .entry))) ⌝ }
 {
     if p.hi != 6 {
         return false;
@@ -89,8 +89,8 @@ fn row(
     p: Plan,
     y: usize,
 ) -> bool
-    requires { ⌜ RowingFor p (now sa) (now sc) (now off) (now val) y ⌝ }
-    ensures { λ r. ⌜ RowedFor p (now (sa .entry)) (now (sc .entry)) (now (val .exit)) y r ⌝ }
+    requires { ⌜ Rowing p (now sa) (now sc) (now off) (now val) y ⌝ }
+    ensures { λ r. ⌜ Rowed p (now (sa .entry)) (now (sc .entry)) (now (val .exit)) y r ⌝ }
 {
     let stride = p.m + p.ey + 1;
     let n = p.ex - p.ey;
@@ -119,8 +119,8 @@ fn row(
 
 // All rows: whether the count at the end fits 64 bits.
 fn all_rows(val: &mut [u64], sa: &[usize; 8], sc: &[usize; 8], off: &[usize; 8], p: Plan) -> bool
-    requires { ⌜ BegunFor p (now sa) (now sc) (now off) (now val) × CorneredFor p (now sa) (now sc) ⌝ }
-    ensures { λ r. ⌜ RisenFor p (now (sa .entry)) (now (sc .entry)) (now (val .exit)) r ⌝ }
+    requires { ⌜ Begun p (now sa) (now sc) (now off) (now val) × Cornered p (now sa) (now sc) ⌝ }
+    ensures { λ r. ⌜ Risen p (now (sa .entry)) (now (sc .entry)) (now (val .exit)) r ⌝ }
 {
     let ey = p.ey;
     let mut y = 0;
@@ -141,8 +141,8 @@ pub(crate) fn fill_rows(
     off: &[usize; 8],
     p: Plan,
 ) -> Answer
-    requires { ⌜ BegunFor p (now sa) (now sc) (now off) (now val) × CorneredFor p (now sa) (now sc) ⌝ }
-    ensures { λ r. ⌜ FilledFor p (now (sa .entry)) (now (sc .entry)) (now (val .exit)) r ⌝ }
+    requires { ⌜ Begun p (now sa) (now sc) (now off) (now val) × Cornered p (now sa) (now sc) ⌝ }
+    ensures { λ r. ⌜ Filled p (now (sa .entry)) (now (sc .entry)) (now (val .exit)) r ⌝ }
 {
     if !all_rows(val, sa, sc, off, p) {
         return Answer::Over;

@@ -3,7 +3,8 @@ ghost use Prim.Native.Nat.{_≤_};
 ghost use lib.ListN.{length};
 ghost use Rattle.grid.specs.Shapes.{FormOf};
 ghost use Rattle.grid.specs.Spelling.{Front};
-ghost use Rattle.grid.specs.Plans.{PreparedFor, BegunFor, SpellingFor, SpellsFor, RoomFor, edgeFor, ListsFor, BuildsFor, BuildsAt};
+ghost use Rattle.grid.specs.Filling.{Begun};
+ghost use Rattle.grid.specs.Plans.{PreparedFor, SpellingFor, SpellsFor, RoomFor, edgeFor, ListsFor, BuildsFor, BuildsAt};
 use crate::Answer;
 use crate::edges::spell;
 use crate::plan::Plan;
@@ -69,7 +70,7 @@ fn spell_in(
     steps: &mut [u8],
     ends: &mut [usize],
 ) -> Built
-    requires { ⌜ BegunFor p (now sa) (now sc) (now off) (now val) × RoomFor (now numbers) (now steps) (now ends) ⌝ }
+    requires { ⌜ Begun p (now sa) (now sc) (now off) (now val) × RoomFor (now numbers) (now steps) (now ends) ⌝ }
     ensures { λ r. ⌜ BuildsFor p (now (sa .entry)) (now (sc .entry)) (now (numbers .entry)) (now (steps .entry)) (now (ends .entry)) (now (steps .exit)) (now (ends .exit)) r ⌝ }
 {
     let Answer::Count(c) = fill(val, sa, sc, off, p) else {

@@ -4,10 +4,10 @@ use native.Mathlib.Omega.{arith}
 use lib.ListN.{length}
 use borrow.Author.Needs.{needs}
 use borrow.Author.Tests.{not-false, not-true}
-use Rattle.grid.specs.Rows.{Rows}
+use Rattle.grid.specs.Rows.{RowsFor}
 use Rattle.grid.specs.Plans.{PreparedFor}
 use Rattle.grid.proofs.Phases.{ready-len}
-use Rattle.grid.proofs.Along.{rows-none, rowing-of, risen-of, risen-over}
+use Rattle.grid.proofs.Along.{rows-none, risen-of, risen-over}
 use Rattle.grid.proofs.rows.all_rows.Statement.{statement}
 use Rattle.grid.proofs.rows.all_rows.Tie as tie
 use Rattle.grid.proofs.rows.all_rows.Reads as reads
@@ -15,7 +15,7 @@ use Rattle.grid.proofs.rows.all_rows.Lts as lts
 use Rattle.grid.proofs.rows.row.Reads as row-reads
 
 abbrev Inv-loop : tie.InvT-loop
-Inv-loop val₀ sa sc off p ey y₀ val y = (length val ≡ length val₀) × (y ≤ p .ey + 1) × PreparedFor p sa sc off (length val) × Rows (p .k) (p .f) sa sc (p .m) (p .ey) (p .ex - p .ey) val y 0
+Inv-loop val₀ sa sc off p ey y₀ val y = (length val ≡ length val₀) × (y ≤ p .ey + 1) × PreparedFor p sa sc off (length val) × RowsFor p sa sc val y 0
 
 abbrev μ-loop : tie.MeasureT-loop
 μ-loop val₀ sa sc off p ey y₀ val y = p .ey + 1 - y
@@ -28,7 +28,7 @@ loop-holds c =
 -- src/rows.rt:154:13
 row-requires : tie.Need-row-requires Inv-loop μ-loop
 row-requires c κs =
-    rowing-of (c .before .before .loop .inv .2) (c .before .before .before .before .pre .1) (c .before .before .loop .inv .3) (c .before .loop-test .taken)
+    record { ready = c .before .before .loop .inv .2; steps = c .before .before .before .before .pre .1; rows = c .before .before .loop .inv .3; inside = c .before .loop-test .taken }
 
 -- src/rows.rt:155:13
 same-length : tie.Need-same-length Inv-loop μ-loop

@@ -1,6 +1,6 @@
 use Prim.Native.Nat.{_-_, _^_, _<_}
 use mathlib.Core.Path.{_≡_, refl, sym, subst}
-use lib.Dec.{T, eqb}
+use lib.Dec.{T}
 use native.Mathlib.Omega.{arith}
 use lib.ListN.{length, length-set}
 use Rattle.grid.proofs.Along.{Along, row-at, row-small, row-far, first-fits, along-start, along-in, along-small, along-far, along-done, next-in, next-small, along-over, along-next}
@@ -12,7 +12,7 @@ use Rattle.grid.proofs.rows.across.Reads as across-reads
 use Rattle.grid.proofs.rows.first.Reads as first-reads
 
 abbrev Inv-loop : tie.InvT-loop
-Inv-loop val₀ sa sc off p y stride n at₀ sum₀ i₀ val at sum i = (length val ≡ length val₀) × (sum < 2 ^ 64) × Along (eqb (p .k) 3) (p .few) (p .k) (p .f) sa sc off (p .hi) (p .m) (p .ex) (p .ey) y val at sum i
+Inv-loop val₀ sa sc off p y stride n at₀ sum₀ i₀ val at sum i = (length val ≡ length val₀) × (sum < 2 ^ 64) × Along p sa sc off y val at sum i
 
 abbrev μ-loop : tie.MeasureT-loop
 μ-loop val₀ sa sc off p y stride n at₀ sum₀ i₀ val at sum i = n - i
@@ -30,7 +30,7 @@ add-stride-2 c =
 -- src/rows.rt:111:13
 sub-n : tie.Need-sub-n Inv-loop μ-loop
 sub-n c =
-    c .before .before .before .pre .wide
+    c .before .before .before .pre .steps .wide
 
 -- src/rows.rt:112:18
 add-at : tie.Need-add-at Inv-loop μ-loop
