@@ -1,7 +1,7 @@
 -- The reply to building edges, for each way over the table. Assumes nothing.
 --
 --   front-of                    an edge copied from the end of a buffer
---   spelling-of                 each number of the list can be spelt; front-next: it is the next of the lines
+--   front-next                  it is the next of the lines
 --   below-told                  a test of the numbers against the table's count
 --   for-over, for-beyond, for-all    what is answered by the table's count and the numbers
 --   build-over, build-none, build-empty    the count needs more than 64 bits; it is 0, and there are numbers or none
@@ -39,9 +39,8 @@ use Rattle.lines.specs.Lines.{endsFrom, lined, LinedAs}
 use Rattle.lines.proofs.Lining.{Lining, lining-next, lined-refused}
 use Rattle.grid.specs.Form.{W}
 use Rattle.grid.specs.Edges as edges
-use Rattle.grid.specs.Edges.{Spelling}
 use Rattle.grid.specs.Shapes.{Grids}
-use Rattle.grid.specs.Spelling.{Front, Spells, edgesBy, edgesFor}
+use Rattle.grid.specs.Spelling.{Front, edgesBy, edgesFor}
 use Rattle.grid.specs.Calls.{forGrid, edgesOf}
 use Rattle.grid.specs.declared.shape.Shape.{Shape}
 use Rattle.grid.proofs.Grounds.{shape-count}
@@ -58,10 +57,6 @@ front-of e buf old new at len x q a l z h b =
     let long : 128 - at ≡ length e = omega (arith, length-drop at buf, ap length q) in
     let c = rw (whole, le-leb (length e) (length old) (omega arith)) at (b .output) in
     record { shown = c ∙ ap (λ (k : ℕ). e ++ drop k old) (sym long); long = long; short = omega arith }
-
-module _ (corner few : Bool) (k f : ℕ) (sa sc off : List ℕ) (hi m ex ey : ℕ) (val ns : List ℕ) (s : Spells few k f sa sc off hi m ex ey val ns) where
-  pub spelling-of : (i : ℕ) → i < length ns → Spelling few k f sa sc off hi m ex ey val (getD ns i 0)
-  spelling-of i l = record { ready = s .ready; solid = s .solid; fits = s .fits; less = below-at (W k f sa sc ex ey) ns (holds (s .below)) i l }
 
 pub front-next : (g : ℕ → List ℕ) (ns steps ends : List ℕ) (i at : ℕ) (s t : List ℕ) → Lining g ns steps ends i at s t
     → (n : ℕ) (part : List ℕ) → i < length ns → Front (g (getD ns i 0)) (take (length s - at) (drop at s)) part n

@@ -9,19 +9,21 @@
 --   Slow       the same, where the heights that matter run from `from` to `to`
 --   Part       column x filled as far as height y
 --   Parts      what the eight steps bring to cell p, column x, height y, can be read
+--   Solid      with flags beside them all cells that matter are right
 --   Filled     the answer for the end, and a table filled where it isn't Over
+--   Full       a filled table, and the end's count fits
 use mathlib.Core.Path.{_≡_}
 use mathlib.Core.Bool.{Bool, true}
 use mathlib.Core.List.{List}
-use Prim.Native.Nat.{ℕ, _+_, _≤_, _<_}
+use Prim.Native.Nat.{ℕ, _+_, _^_, _≤_, _<_}
 use lib.ListN.{length, getD}
 use Rattle.grid.specs.declared.Answer.{Answer}
 use Rattle.grid.specs.declared.Answer.the-variants.{Over}
 use Rattle.grid.specs.declared.plan.Plan.{Plan}
 use Rattle.grid.specs.Form.{W, via}
 use Rattle.grid.specs.Cells.{capOf, cellAt, place, sourceOf}
-use Rattle.grid.specs.Table.{From, To, Solid}
-use Rattle.grid.specs.Plans.{cellsFor, PreparedFor, TableFor, FlaggedFor, SmallFor, countFor}
+use Rattle.grid.specs.Table.{From, To, Cells}
+use Rattle.grid.specs.Plans.{cellsFor, PreparedFor, TableFor, FlaggedFor, SmallFor, walksFor, countFor}
 
 pub record Begun (p : Plan) (sa sc off val : List ℕ) : Type 0 where
   pub ready : PreparedFor p sa sc off (length val)
@@ -73,6 +75,15 @@ pub record Parts (k f : ℕ) (sa sc off val ov : List ℕ) (x y p : ℕ) : Type 
   pub in-ov : (i : ℕ) → i < 8 → sourceOf sa off x p i < length ov
   pub says : (i : ℕ) → i < 8 → cellAt val ov (sourceOf sa off x p i) ≡ capOf (via k f sa sc x y i)
 
+pub record Solid (p : Plan) (sa sc val : List ℕ) : Type 0 where
+  pub ov : List ℕ
+  pub flags : Cells capOf (cellAt val ov) (p .k) (p .f) sa sc (p .hi) (p .m) (p .ex) (p .ey) (p .ex + 1)
+
 pub record Filled (p : Plan) (sa sc val : List ℕ) (r : Answer) : Type 0 where
   pub answer : r ≡ countFor p sa sc
-  pub solid : (r ≡ Over → ⊥) → Solid (p .k) (p .f) sa sc (p .hi) (p .m) (p .ex) (p .ey) val
+  pub solid : (r ≡ Over → ⊥) → Solid p sa sc val
+
+pub record Full (p : Plan) (sa sc off val : List ℕ) : Type 0 where
+  pub ready : PreparedFor p sa sc off (length val)
+  pub solid : Solid p sa sc val
+  pub fits : walksFor p sa sc < 2 ^ 64

@@ -5,7 +5,7 @@
 --   FormFor p sa sc                   the steps sa, sc with the plan's end are a form
 --   Planned sa sc p                   the steps sa, sc have the form, the steepest and the deepest step that the plan p says, and are few if it says so
 --   PlanOf s p                        the plan p is the shape s's
---   PreparedFor, TableFor, FlaggedFor, SmallFor, RankingFor, SpellingFor, SpellsFor    Prepared, Table and so on by a plan
+--   PreparedFor, TableFor, FlaggedFor, SmallFor    Prepared, Table, Flagged and Small by a plan
 --   walksFor p sa sc                  how many walks lead to the end
 --   countFor, numberFor p sa sc e     the count by a plan, and the number of the edge e; validFor, rankFor: whether it is one, and its number if so
 --   edgeFor p sa sc r                 the edge of the number r; ListsFor, BuildsFor: those of the numbers ns written, and those or refusal 4 or 6
@@ -27,9 +27,9 @@ use Rattle.grid.specs.declared.shape.Shape.{Shape}
 use Rattle.grid.specs.Form.{Form, W}
 use Rattle.grid.specs.Cells.{capOf, strideOf}
 use Rattle.grid.specs.Table.{Steepest, Deepest, Few, Sizes, Prepared, Table, Flagged, Small}
-use Rattle.grid.specs.Edges.{isEdge, numberOf, edgeOf, Ranking, Spelling}
+use Rattle.grid.specs.Edges.{isEdge, numberOf, edgeOf}
 use Rattle.grid.specs.Numbering.{tableNumber}
-use Rattle.grid.specs.Spelling.{Spells, edgesBy, edgesFor}
+use Rattle.grid.specs.Spelling.{edgesBy, edgesFor}
 
 abbrev pub strideFor : Plan → ℕ
 strideFor p = strideOf (p .m) (p .ey)
@@ -68,15 +68,6 @@ SmallFor p sa sc x = Small (p .k) (p .f) sa sc (p .hi) (p .ex) (p .ey) x
 
 abbrev pub FlaggedFor : Plan → List ℕ → List ℕ → List ℕ → List ℕ → ℕ → Type 0
 FlaggedFor p sa sc val ov x = Flagged (p .k) (p .f) sa sc (p .hi) (p .m) (p .ex) (p .ey) val ov x
-
-abbrev pub RankingFor : Plan → List ℕ → List ℕ → List ℕ → List ℕ → List ℕ → Type 0
-RankingFor p sa sc off val e = Ranking (p .corner) (p .few) (p .k) (p .f) sa sc off (p .hi) (p .m) (p .ex) (p .ey) val e
-
-abbrev pub SpellingFor : Plan → List ℕ → List ℕ → List ℕ → List ℕ → ℕ → Type 0
-SpellingFor p sa sc off val r = Spelling (p .few) (p .k) (p .f) sa sc off (p .hi) (p .m) (p .ex) (p .ey) val r
-
-abbrev pub SpellsFor : Plan → List ℕ → List ℕ → List ℕ → List ℕ → List ℕ → Type 0
-SpellsFor p sa sc off val ns = Spells (p .few) (p .k) (p .f) sa sc off (p .hi) (p .m) (p .ex) (p .ey) val ns
 
 abbrev pub walksFor : Plan → List ℕ → List ℕ → ℕ
 walksFor p sa sc = W (p .k) (p .f) sa sc (p .ex) (p .ey)

@@ -13,7 +13,6 @@
 --   Sheet T at           the same, and every cell of the columns from x on says 0
 --   Table                a sheet of values
 --   Flagged              a sheet of values and flags
---   Solid                with flags beside them all cells that matter are right
 --   Small                eight numbers of the columns before x can be summed
 use mathlib.Core.Path.{_≡_}
 use mathlib.Core.Bool.{Bool, true}
@@ -105,7 +104,3 @@ Flagged k f sa sc hi m ex ey val ov x = Sheet capOf (cellAt val ov) k f sa sc hi
 
 pub record Small (k f : ℕ) (sa sc : List ℕ) (hi ex ey x : ℕ) : Type 0 where
   pub small : (u y : ℕ) → u < x → Ends hi ex ey u y → W k f sa sc u y ≤ 2305843009213693951
-
-pub record Solid (k f : ℕ) (sa sc : List ℕ) (hi m ex ey : ℕ) (val : List ℕ) : Type 0 where
-  pub ov : List ℕ
-  pub flags : Cells capOf (cellAt val ov) k f sa sc hi m ex ey (ex + 1)

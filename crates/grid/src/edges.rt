@@ -1,12 +1,14 @@
 // Edges of the grid from their end backwards: validity, the number of an edge, and the edge of a number.
 ghost use mathlib.Core.Path.{_≡_};
+ghost use mathlib.Core.Bool.{true};
 ghost use Prim.Native.Nat.{_≤_, _<_};
 ghost use lib.ListN.{length, drop};
 ghost use Rattle.howmany.specs.Sum.{sum};
 ghost use Rattle.grid.specs.Form.{via};
 ghost use Rattle.letters.specs.Letters.{glyphOf};
 ghost use Rattle.grid.specs.Edges.{Reads, Sought};
-ghost use Rattle.grid.specs.Plans.{FormFor, RankingFor, SpellingFor, validFor, rankFor, edgeFor};
+ghost use Rattle.grid.specs.Plans.{FormFor, walksFor, validFor, rankFor, edgeFor};
+ghost use Rattle.grid.specs.Filling.{Full};
 use crate::column::source;
 use crate::cone::stays;
 use crate::plan::Plan;
@@ -95,7 +97,7 @@ pub(crate) fn rank(
     p: Plan,
     e: &[u8],
 ) -> u64
-    requires { ⌜ RankingFor p (now sa) (now sc) (now off) (now val) (now e) ⌝ }
+    requires { ⌜ Full p (now sa) (now sc) (now off) (now val) × (validFor p (now sa) (now sc) (now e) ≡ true) ⌝ }
     ensures { λ r. ⌜ r ≡ rankFor p (now (sa .entry)) (now (sc .entry)) (now (e .entry)) ⌝ }
 {
     let mut acc: u64 = 0;
@@ -165,7 +167,7 @@ pub(crate) fn spell(
     r: u64,
     buf: &mut [u8],
 ) -> usize
-    requires { ⌜ SpellingFor p (now sa) (now sc) (now off) (now val) r × (length (now buf) ≡ 128) ⌝ }
+    requires { ⌜ Full p (now sa) (now sc) (now off) (now val) × (r < walksFor p (now sa) (now sc)) × (length (now buf) ≡ 128) ⌝ }
     ensures { λ s. ⌜ (s ≤ 128) × (drop s (now (buf .exit)) ≡ edgeFor p (now (sa .entry)) (now (sc .entry)) r) ⌝ }
 {
     let mut x = p.ex;

@@ -33,7 +33,7 @@ returns-2 : tie.Need-returns-2
 returns-2 c = table-not _ _ _ _ _ _ _ _ (cap-count _ _ (sym (c .before .before .before .before .before .before .fill .ensures .answer) ∙ c .before .before .enum-told2 .given .1) .1) (sym (c .before .valid .ensures) ∙ not-true _ (c .if1 .taken))
 
 rank-requires : tie.Need-rank-requires
-rank-requires c κs = record { ready = ready-len (c .before .before .before .before .before .before .before .before .before .before .before .pre .0 .ready) (search needs); solid = c .before .before .before .before .before .before .before .fill .ensures .solid (count-over (c .before .before .before .enum-told2 .given .1)); valid = sym (c .before .before .valid .ensures) ∙ not-false _ (c .before .if1 .left); fits = cap-count _ _ (sym (c .before .before .before .before .before .before .before .fill .ensures .answer) ∙ c .before .before .before .enum-told2 .given .1) .1 }
+rank-requires c κs = (record { ready = ready-len (c .before .before .before .before .before .before .before .before .before .before .before .pre .0 .ready) (search needs); solid = c .before .before .before .before .before .before .before .fill .ensures .solid (count-over (c .before .before .before .enum-told2 .given .1)); fits = cap-count _ _ (sym (c .before .before .before .before .before .before .before .fill .ensures .answer) ∙ c .before .before .before .enum-told2 .given .1) .1 }, sym (c .before .before .valid .ensures) ∙ not-false _ (c .before .if1 .left))
 
 same-length-3 : tie.Need-same-length-3
 same-length-3 c = search needs

@@ -33,7 +33,7 @@ returns-2 : tie.Need-returns-2
 returns-2 c = for-beyond (c .before .before .before .before .before .before .before .before .before .before .before .before .before .args .p .corner) _ _ _ _ _ _ _ _ _ (cap-count _ _ (sym (c .before .before .before .before .before .before .before .fill .ensures .answer) ∙ c .before .before .before .c .given .1) .1) (below-told (c .before .before .before .before .before .before .before .before .before .before .before .before .before .args .numbers .now) _ _ _ (sym (cap-count _ _ (sym (c .before .before .before .before .before .before .before .fill .ensures .answer) ∙ c .before .before .before .c .given .1) .0)) (c .before .all-below .ensures) ∙ not-true _ (c .if1 .taken))
 
 spell-all-requires : tie.Need-spell-all-requires
-spell-all-requires c κs = (record { ready = ready-len (c .before .before .before .before .before .before .before .before .before .before .before .before .before .before .before .before .pre .0 .ready) (search needs); solid = c .before .before .before .before .before .before .before .before .before .before .fill .ensures .solid (count-over (c .before .before .before .before .before .before .c .given .1)); fits = cap-count _ _ (sym (c .before .before .before .before .before .before .before .before .before .before .fill .ensures .answer) ∙ c .before .before .before .before .before .before .c .given .1) .1; below = below-told (c .before .before .before .before .before .before .before .before .before .before .before .before .before .before .before .before .args .numbers .now) _ _ _ (sym (cap-count _ _ (sym (c .before .before .before .before .before .before .before .before .before .before .fill .ensures .answer) ∙ c .before .before .before .before .before .before .c .given .1) .0)) (c .before .before .before .before .all-below .ensures) ∙ not-false _ (c .before .before .before .if1 .left) }, c .before .before .before .before .before .before .before .before .before .before .before .before .before .before .before .before .pre .1)
+spell-all-requires c κs = (record { ready = ready-len (c .before .before .before .before .before .before .before .before .before .before .before .before .before .before .before .before .pre .0 .ready) (search needs); solid = c .before .before .before .before .before .before .before .before .before .before .fill .ensures .solid (count-over (c .before .before .before .before .before .before .c .given .1)); fits = cap-count _ _ (sym (c .before .before .before .before .before .before .before .before .before .before .fill .ensures .answer) ∙ c .before .before .before .before .before .before .c .given .1) .1 }, below-told (c .before .before .before .before .before .before .before .before .before .before .before .before .before .before .before .before .args .numbers .now) _ _ _ (sym (cap-count _ _ (sym (c .before .before .before .before .before .before .before .before .before .before .fill .ensures .answer) ∙ c .before .before .before .before .before .before .c .given .1) .0)) (c .before .before .before .before .all-below .ensures) ∙ not-false _ (c .before .before .before .if1 .left), c .before .before .before .before .before .before .before .before .before .before .before .before .before .before .before .before .pre .1)
 
 same-length-3 : tie.Need-same-length-3
 same-length-3 c = search needs
