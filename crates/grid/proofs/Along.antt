@@ -29,7 +29,7 @@ use Rattle.grid.specs.Form.{W, via}
 use Rattle.grid.specs.Cells.{strideOf, place}
 use Rattle.grid.specs.declared.plan.Plan as plans
 use Rattle.grid.specs.Table.{Plan, Ends, Table}
-use Rattle.grid.specs.Plans.{strideFor, cellsFor, PreparedFor, walksFor}
+use Rattle.grid.specs.Plans.{strideFor, PreparedFor, walksFor}
 use Rattle.grid.specs.Filling.{Filled}
 use Rattle.grid.specs.Rows.{Rises, Corner, Cornered, Done, Rows, RowsFor, Rowing, Risen}
 use Rattle.grid.proofs.Walls.{wall-level}

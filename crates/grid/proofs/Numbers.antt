@@ -28,7 +28,7 @@ use Rattle.letters.specs.Letters.{placeOf}
 use Rattle.grid.specs.Cells.{capOf, cellAt, place, sourceOf}
 use Rattle.grid.specs.declared.plan.Plan as plans
 use Rattle.grid.specs.Table.{Plan, Ends, Cells}
-use Rattle.grid.specs.Plans.{strideFor, cellsFor, validFor, rankFor}
+use Rattle.grid.specs.Plans.{strideFor, validFor, rankFor}
 use Rattle.grid.specs.Filling.{Solid, Full}
 use Rattle.grid.specs.Edges.{endOf, numberOf, Reads}
 use Rattle.grid.proofs.Walls.{tested}

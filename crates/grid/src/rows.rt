@@ -2,7 +2,7 @@
 // the row below brings. No count before the end is above the end's, so the first that needs more than 64 bits ends the work.
 ghost use mathlib.Core.Path.{_≡_};
 ghost use mathlib.Core.Bool.{true};
-ghost use Prim.Native.Nat.{_+_, _-_, _<_, _≤_};
+ghost use Prim.Native.Nat.{_-_, _<_};
 ghost use lib.Dec.{eqb};
 ghost use lib.ListN.{length, getD};
 ghost use Rattle.howmany.specs.Choose.{pick};
