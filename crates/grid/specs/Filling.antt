@@ -1,4 +1,4 @@
--- What the functions that fill the table of a plan p ask and leave.
+-- What the functions that fill the table of a plan ask and leave.
 --
 --   Begun      a table of zeros, ready to be filled
 --   Before     before column x, with no flags needed yet

@@ -100,8 +100,7 @@ fn row(
     let mut i = 0;
     while i < n {
         let a = val[at - 1];
-        let three = p.k == 3;
-        let b = across(val, three, stride, at);
+        let b = across(val, p.k == 3, stride, at);
         if 18446744073709551615 - sum < a {
             return false;
         }

@@ -130,7 +130,7 @@ fn rest(
         turn(val, &mut ov, sa, sc, off, p, x);
         x += 1;
     }
-    cell(val, &ov, (p.ex + 1) * (p.m + p.ey + 1) + p.m + p.ey)
+    cell(val, &ov, (ex + 1) * (p.m + p.ey + 1) + p.m + p.ey)
 }
 
 // The whole table column by column; the answer is the count at the end.
