@@ -61,7 +61,7 @@ pub(crate) fn valid(e: &[u8], sa: &[usize; 8], sc: &[usize; 8], p: Plan) -> bool
     x + y == 0
 }
 
-// What the first l steps bring to cell p, column x, height y.
+// What the first l steps bring to the cell at `at`, column x, height y.
 fn part_sum(
     val: &[u64],
     sa: &[usize; 8],
@@ -71,17 +71,17 @@ fn part_sum(
     f: usize,
     x: usize,
     y: usize,
-    p: usize,
+    at: usize,
     l: usize,
 ) -> u64
     requires { ⌜ l ≤ k ⌝ }
-    requires { ⌜ Reads k f (now sa) (now sc) (now off) (now val) x y p ⌝ }
+    requires { ⌜ Reads k f (now sa) (now sc) (now off) (now val) x y at ⌝ }
     ensures { λ r. ⌜ r ≡ sum (via k f (now (sa .entry)) (now (sc .entry)) x y) l ⌝ }
 {
     let mut acc: u64 = 0;
     let mut i = 0;
     while i < l {
-        let s = source(sa, off, i, x, p);
+        let s = source(sa, off, i, x, at);
         acc += val[s];
         i += 1;
     }
@@ -133,17 +133,17 @@ fn seek(
     f: usize,
     x: usize,
     y: usize,
-    p: usize,
+    at: usize,
     r: u64,
 ) -> Pick
-    requires { ⌜ Reads k f (now sa) (now sc) (now off) (now val) x y p ⌝ }
+    requires { ⌜ Reads k f (now sa) (now sc) (now off) (now val) x y at ⌝ }
     requires { ⌜ r < sum (via k f (now sa) (now sc) x y) k ⌝ }
     ensures { λ q. ⌜ Sought (via k f (now (sa .entry)) (now (sc .entry)) x y) k r (q .letter) (q .rest) ⌝ }
 {
     let mut left = r;
     let mut i = 0;
     while i < k {
-        let s = source(sa, off, i, x, p);
+        let s = source(sa, off, i, x, at);
         let v = val[s];
         if left < v {
             return Pick {

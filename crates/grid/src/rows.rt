@@ -61,23 +61,23 @@ pub(crate) fn is_corner(sa: &[usize; 8], sc: &[usize; 8], p: Plan) -> bool
     sc[2] == 1
 }
 
-// The first cell of row y, which is at p: the one before it on the diagonal.
-fn first(val: &[u64], stride: usize, y: usize, p: usize) -> u64
-    requires { ⌜ (stride < p) × (p - stride - 1 < length (now val)) ⌝ }
-    ensures { λ r. ⌜ r ≡ pick (eqb y 0) 1 (getD (now (val .entry)) (p - stride - 1) 0) ⌝ }
+// The first cell of row y, which stands at `at`: the one before it on the diagonal.
+fn first(val: &[u64], stride: usize, y: usize, at: usize) -> u64
+    requires { ⌜ (stride < at) × (at - stride - 1 < length (now val)) ⌝ }
+    ensures { λ r. ⌜ r ≡ pick (eqb y 0) 1 (getD (now (val .entry)) (at - stride - 1) 0) ⌝ }
 {
     if y == 0 {
         return 1;
     }
-    val[p - stride - 1]
+    val[at - stride - 1]
 }
 
-// What the third step, if it is there, brings to the cell after p.
-fn across(val: &[u64], three: bool, stride: usize, p: usize) -> u64
-    requires { ⌜ (stride < p) × (p - stride - 1 < length (now val)) ⌝ }
-    ensures { λ r. ⌜ r ≡ pick three (getD (now (val .entry)) (p - stride - 1) 0) 0 ⌝ }
+// What the third step, if it is there, brings to the cell after the one at `at`.
+fn across(val: &[u64], three: bool, stride: usize, at: usize) -> u64
+    requires { ⌜ (stride < at) × (at - stride - 1 < length (now val)) ⌝ }
+    ensures { λ r. ⌜ r ≡ pick three (getD (now (val .entry)) (at - stride - 1) 0) 0 ⌝ }
 {
-    if three { val[p - stride - 1] } else { 0 }
+    if three { val[at - stride - 1] } else { 0 }
 }
 
 // Row y, from column y on: whether all its counts fit 64 bits.
