@@ -9,7 +9,7 @@
 --   rows-none, rows-more, rows-next, rows-got    the rows so far: none yet, one cell more, a row more, and all of them
 --   below-is, across-is, first-is, first-one     what is read from the row below
 --   Along, row-.., along-.., next-..             the loop along a row
---   rowing-of, risen-of, risen-over, rows-over   the loop over the rows, and where a count doesn't fit
+--   risen-of, risen-over, rows-over   the loop over the rows, and where a count doesn't fit
 use mathlib.Core.Path.{_≡_, refl, sym, ap, ap₂, _∙_, subst}
 use mathlib.Core.Logic.{inl, inr}
 use mathlib.Core.Bool.{Bool, true, false}
@@ -27,9 +27,11 @@ use Rattle.howmany.specs.Sum.{sum}
 use Rattle.grid.specs.declared.Answer.the-variants.{Over}
 use Rattle.grid.specs.Form.{W, via}
 use Rattle.grid.specs.Cells.{strideOf, place}
-use Rattle.grid.specs.Table.{Slopes, Ends, Ready}
-use Rattle.grid.specs.Filling.{Got, Filled}
-use Rattle.grid.specs.Rows.{Rises, Corner, Cornered, Done, Rows, Rowing, Risen}
+use Rattle.grid.specs.declared.plan.Plan as plans
+use Rattle.grid.specs.Table.{Slopes, Ends, Table}
+use Rattle.grid.specs.Plans.{strideFor, PreparedFor, walksFor}
+use Rattle.grid.specs.Filling.{Filled}
+use Rattle.grid.specs.Rows.{Rises, Corner, Cornered, Done, Rows, RowsFor, Rowing, Risen}
 use Rattle.grid.proofs.Walls.{wall-level}
 use Rattle.grid.proofs.Laws.{via-left, via-under, via-in, W-start, W-step, cap-ge}
 use Rattle.grid.proofs.Counts.{pos-of, W-high}
@@ -121,27 +123,27 @@ module _ (k f : ℕ) (sa sc : List ℕ) where
 
 -- ---- `is_corner`
 
-module _ {k f : ℕ} {sa sc : List ℕ} {hi m ex ey : ℕ} (slope : hi ≡ 6) (deep : m ≡ 1) (level : f ≡ 0) (wide : ey ≤ ex) (one : getD sa 0 0 ≡ 1) (two : getD sa 1 0 ≡ 1) (rise : Rises (getD sc 0 0) (getD sc 1 0)) where
-  pub two-cornered : k ≡ 2 → Cornered k f sa sc hi m ex ey
+module _ {p : plans.Plan} {sa sc : List ℕ} (slope : p .hi ≡ 6) (deep : p .m ≡ 1) (level : p .f ≡ 0) (wide : p .ey ≤ p .ex) (one : getD sa 0 0 ≡ 1) (two : getD sa 1 0 ≡ 1) (rise : Rises (getD sc 0 0) (getD sc 1 0)) where
+  pub two-cornered : p .k ≡ 2 → Cornered p sa sc
   two-cornered e = record {
     corner = record {
       level = level;
-      many = rw (ne-eqb k 3 (λ q. omega arith)) e;
+      many = rw (ne-eqb (p .k) 3 (λ q. omega arith)) e;
       one = one;
       two = two;
       rise = rise;
-      third = λ q. absurd (omega (arith, eqb-true k 3 q));
+      third = λ q. absurd (omega (arith, eqb-true (p .k) 3 q));
     };
     slope = slope;
     deep = deep;
     wide = wide;
   }
 
-  pub three-cornered : k ≡ 3 → getD sa 2 0 ≡ 2 → getD sc 2 0 ≡ 1 → Cornered k f sa sc hi m ex ey
+  pub three-cornered : p .k ≡ 3 → getD sa 2 0 ≡ 2 → getD sc 2 0 ≡ 1 → Cornered p sa sc
   three-cornered e a c = record {
     corner = record {
       level = level;
-      many = rw (eq-eqb k 3 e) e;
+      many = rw (eq-eqb (p .k) 3 e) e;
       one = one;
       two = two;
       rise = rise;
@@ -253,19 +255,15 @@ module _ {k f : ℕ} {sa sc : List ℕ} {hi m ex ey : ℕ} {val : List ℕ} (pl 
         ∙ sym (corner-under k f sa sc pl slope three co u y (omega arith) (omega arith))
   ]
 
-  pub rows-got : Got k f sa sc hi m ex ey val (ex + 1)
+  pub rows-got : Table k f sa sc hi m ex ey val (ex + 1)
   rows-got = record {
-    table = record {
-      cells = record {
-        right = cell-right;
-        margin = λ u t l. rs .other (u * strideOf m ey + t) (λ x v d a b e. not-margin m ey u t x v l (done-le x v d a) e);
-        front = λ t l. rs .other t (λ x v d a b e. omega (arith, grow (strideOf m ey) 1 (x + 1) (omega arith)));
-      };
-      blank = λ j l. rs .other j (λ x v d a b e.
-          omega (arith, done-le x v d a, one-more (strideOf m ey) (x + 1), grow (strideOf m ey) (x + 1 + 1) (ex + 1 + 1) (omega (arith, done-end x v d a b))));
+    cells = record {
+      right = cell-right;
+      margin = λ u t l. rs .other (u * strideOf m ey + t) (λ x v d a b e. not-margin m ey u t x v l (done-le x v d a) e);
+      front = λ t l. rs .other t (λ x v d a b e. omega (arith, grow (strideOf m ey) 1 (x + 1) (omega arith)));
     };
-    start = omega arith;
-    end = omega arith;
+    blank = λ j l. rs .other j (λ x v d a b e.
+        omega (arith, done-le x v d a, one-more (strideOf m ey) (x + 1), grow (strideOf m ey) (x + 1 + 1) (ex + 1 + 1) (omega (arith, done-end x v d a b))));
   }
 
 -- what is read from the row below
@@ -316,18 +314,15 @@ module _ {k f : ℕ} {sa sc : List ℕ} {hi m ex ey : ℕ} {val : List ℕ} (pl 
   pub first-one : y ≡ 0 → 1 ≡ W k f sa sc (y + 0) y
   first-one e = let q : y + 0 ≡ 0 = omega arith in rw (q, e) (sym (W-start k f sa sc (pos-of pl) 0))
 
--- ---- the loop along row y: p is where the cell in column y + i stands, and sum its count
-pub record Along (three few : Bool) (k f : ℕ) (sa sc off : List ℕ) (hi m ex ey y : ℕ) (val : List ℕ) (p sum i : ℕ) : Type 0 where
-  pub ready : Ready few k f sa sc off hi m ex ey val
-  pub corner : Corner three k f sa sc
-  pub slope : hi ≡ 6
-  pub deep : m ≡ 1
-  pub wide : ey ≤ ex
-  pub inside : y ≤ ey
-  pub rows : Rows k f sa sc m ey (ex - ey) val y (i + 1)
-  pub le : i ≤ ex - ey
-  pub at : p ≡ place m ey (y + i) y
-  pub is : sum ≡ W k f sa sc (y + i) y
+-- ---- the loop along row y: cell is where the one in column y + i stands, and sum its count
+pub record Along (p : plans.Plan) (sa sc off : List ℕ) (y : ℕ) (val : List ℕ) (cell sum i : ℕ) : Type 0 where
+  pub ready : PreparedFor p sa sc off (length val)
+  pub steps : Cornered p sa sc
+  pub inside : y ≤ p .ey
+  pub rows : RowsFor p sa sc val y (i + 1)
+  pub le : i ≤ p .ex - p .ey
+  pub at : cell ≡ place (p .m) (p .ey) (y + i) y
+  pub is : sum ≡ W (p .k) (p .f) sa sc (y + i) y
 
 place-in : (m ex ey u v : ℕ) → u ≤ ex → v ≤ ey → place m ey u v + 1 ≤ (ex + 2) * strideOf m ey
 place-in m ex ey u v l h = omega (arith, one-more (strideOf m ey) (u + 1), grow (strideOf m ey) (u + 1 + 1) (ex + 2) (omega arith))
@@ -335,22 +330,22 @@ place-in m ex ey u v l h = omega (arith, one-more (strideOf m ey) (u + 1), grow 
 place-far : (m ey u v : ℕ) → strideOf m ey + m ≤ place m ey u v
 place-far m ey u v = omega (arith, grow (strideOf m ey) 1 (u + 1) (omega arith))
 
-module _ {three few : Bool} {k f : ℕ} {sa sc off : List ℕ} {hi m ex ey y : ℕ} {val : List ℕ} (w : Rowing three few k f sa sc off hi m ex ey val y) where
-  pub row-at : place m ey y y < length val
-  row-at = omega (arith, place-in m ex ey y y (omega (arith, w .inside, w .wide)) (w .inside), w .ready .room)
+module _ {p : plans.Plan} {sa sc off : List ℕ} {y : ℕ} {val : List ℕ} (w : Rowing p sa sc off val y) where
+  pub row-at : place (p .m) (p .ey) y y < length val
+  row-at = omega (arith, place-in (p .m) (p .ex) (p .ey) y y (omega (arith, w .inside, w .steps .wide)) (w .inside), w .ready .room)
 
-  pub row-small : place m ey y y < 3712
-  row-small = omega (arith, place-in m ex ey y y (omega (arith, w .inside, w .wide)) (w .inside), w .ready .sizes .cells)
+  pub row-small : place (p .m) (p .ey) y y < 3712
+  row-small = omega (arith, place-in (p .m) (p .ex) (p .ey) y y (omega (arith, w .inside, w .steps .wide)) (w .inside), w .ready .sizes .cells)
 
-  pub row-far : strideOf m ey < place m ey y y
-  row-far = omega (arith, place-far m ey y y, w .deep)
+  pub row-far : strideFor p < place (p .m) (p .ey) y y
+  row-far = omega (arith, place-far (p .m) (p .ey) y y, w .steps .deep)
 
-  first-value : (p sum : ℕ) → p ≡ place m ey y y → sum ≡ pick (eqb y 0) 1 (getD val (p - strideOf m ey - 1) 0) → sum ≡ W k f sa sc (y + 0) y
-  first-value p sum ep e = go (ℕ-discrete y 0)
+  first-value : (cell sum : ℕ) → cell ≡ place (p .m) (p .ey) y y → sum ≡ pick (eqb y 0) 1 (getD val (cell - strideFor p - 1) 0) → sum ≡ W (p .k) (p .f) sa sc (y + 0) y
+  first-value cell sum ep e = go (ℕ-discrete y 0)
     where
-      go : Dec (y ≡ 0) → sum ≡ W k f sa sc (y + 0) y
-      go (yes z) = e ∙ rw (eq-eqb y 0 z) (first-one (w .ready .slopes) (w .slope) three (w .corner) (w .rows) (w .inside) (w .wide) z)
-      go (no z) = e ∙ rw (ne-eqb y 0 z) (first-is (w .ready .slopes) (w .slope) three (w .corner) (w .rows) (w .inside) (w .wide) p ep z)
+      go : Dec (y ≡ 0) → sum ≡ W (p .k) (p .f) sa sc (y + 0) y
+      go (yes z) = e ∙ rw (eq-eqb y 0 z) (first-one (w .ready .slopes) (w .steps .slope) _ (w .steps .corner) (w .rows) (w .inside) (w .steps .wide) z)
+      go (no z) = e ∙ rw (ne-eqb y 0 z) (first-is (w .ready .slopes) (w .steps .slope) _ (w .steps .corner) (w .rows) (w .inside) (w .steps .wide) cell ep z)
 
   pub first-fits : ((j : ℕ) → getD val j 0 < 2 ^ 64) → (j sum : ℕ) → sum ≡ pick (eqb y 0) 1 (getD val j 0) → sum < 2 ^ 64
   first-fits fits j sum e = go (eqb y 0) e
@@ -359,85 +354,79 @@ module _ {three few : Bool} {k f : ℕ} {sa sc off : List ℕ} {hi m ex ey y : �
       go true q = omega arith
       go false q = omega (arith, fits j)
 
-  pub along-start : (p sum : ℕ) → p ≡ place m ey y y → sum ≡ pick (eqb y 0) 1 (getD val (p - strideOf m ey - 1) 0)
-      → Along three few k f sa sc off hi m ex ey y (set val p sum) p sum 0
-  along-start p sum ep es =
-      let q : p ≡ place m ey (y + 0) y = omega (arith, ep, ap (λ (u : ℕ). (u + 1) * strideOf m ey) same) in
+  pub along-start : (cell sum : ℕ) → cell ≡ place (p .m) (p .ey) y y → sum ≡ pick (eqb y 0) 1 (getD val (cell - strideFor p - 1) 0)
+      → Along p sa sc off y (set val cell sum) cell sum 0
+  along-start cell sum ep es =
+      let q : cell ≡ place (p .m) (p .ey) (y + 0) y = omega (arith, ep, ap (λ (u : ℕ). (u + 1) * strideFor p) same) in
       record {
-        ready = ready-len (w .ready) (length-set val p sum);
-        corner = w .corner;
-        slope = w .slope;
-        deep = w .deep;
-        wide = w .wide;
+        ready = ready-len (w .ready) (length-set val cell sum);
+        steps = w .steps;
         inside = w .inside;
-        rows = rows-more (w .rows) (w .inside) p sum q (omega (arith, row-at)) (omega arith) (first-value p sum ep es);
+        rows = rows-more (w .rows) (w .inside) cell sum q (omega (arith, row-at)) (omega arith) (first-value cell sum ep es);
         le = omega arith;
         at = q;
-        is = first-value p sum ep es;
+        is = first-value cell sum ep es;
       }
     where
       same : y + 0 ≡ y
       same = omega arith
 
-module _ {three few : Bool} {k f : ℕ} {sa sc off : List ℕ} {hi m ex ey y : ℕ} {val : List ℕ} {p sum i : ℕ} (a : Along three few k f sa sc off hi m ex ey y val p sum i) where
-  column-in : y + i ≤ ex
-  column-in = omega (arith, a .le, a .inside, a .wide)
+module _ {p : plans.Plan} {sa sc off : List ℕ} {y : ℕ} {val : List ℕ} {cell sum i : ℕ} (a : Along p sa sc off y val cell sum i) where
+  column-in : y + i ≤ p .ex
+  column-in = omega (arith, a .le, a .inside, a .steps .wide)
 
-  pub along-in : p < length val
-  along-in = omega (arith, a .at, place-in m ex ey (y + i) y column-in (a .inside), a .ready .room)
+  pub along-in : cell < length val
+  along-in = omega (arith, a .at, place-in (p .m) (p .ex) (p .ey) (y + i) y column-in (a .inside), a .ready .room)
 
-  pub along-small : p < 3712
-  along-small = omega (arith, a .at, place-in m ex ey (y + i) y column-in (a .inside), a .ready .sizes .cells)
+  pub along-small : cell < 3712
+  along-small = omega (arith, a .at, place-in (p .m) (p .ex) (p .ey) (y + i) y column-in (a .inside), a .ready .sizes .cells)
 
-  pub along-far : strideOf m ey < p
-  along-far = omega (arith, a .at, place-far m ey (y + i) y, a .deep)
+  pub along-far : strideFor p < cell
+  along-far = omega (arith, a .at, place-far (p .m) (p .ey) (y + i) y, a .steps .deep)
 
-  pub along-done : i ≡ ex - ey → Rows k f sa sc m ey (ex - ey) val (y + 1) 0
+  pub along-done : i ≡ p .ex - p .ey → RowsFor p sa sc val (y + 1) 0
   along-done e = rows-next (a .rows) (omega arith)
 
-  module _ (l : i < ex - ey) where
-    next-place : p + strideOf m ey ≡ place m ey (y + (i + 1)) y
-    next-place = omega (arith, a .at, one-more (strideOf m ey) (y + i + 1), same)
+  module _ (l : i < p .ex - p .ey) where
+    next-place : cell + strideFor p ≡ place (p .m) (p .ey) (y + (i + 1)) y
+    next-place = omega (arith, a .at, one-more (strideFor p) (y + i + 1), same)
       where
-        same : (y + i + 1 + 1) * strideOf m ey ≡ (y + (i + 1) + 1) * strideOf m ey
-        same = let e : y + i + 1 + 1 ≡ y + (i + 1) + 1 = omega arith in ap (λ (u : ℕ). u * strideOf m ey) e
+        same : (y + i + 1 + 1) * strideFor p ≡ (y + (i + 1) + 1) * strideFor p
+        same = let e : y + i + 1 + 1 ≡ y + (i + 1) + 1 = omega arith in ap (λ (u : ℕ). u * strideFor p) e
 
-    pub next-in : p + strideOf m ey < length val
-    next-in = omega (arith, next-place, place-in m ex ey (y + (i + 1)) y (omega (arith, a .inside, a .wide)) (a .inside), a .ready .room)
+    pub next-in : cell + strideFor p < length val
+    next-in = omega (arith, next-place, place-in (p .m) (p .ex) (p .ey) (y + (i + 1)) y (omega (arith, a .inside, a .steps .wide)) (a .inside), a .ready .room)
 
-    pub next-small : p + strideOf m ey < 3712
-    next-small = omega (arith, next-place, place-in m ex ey (y + (i + 1)) y (omega (arith, a .inside, a .wide)) (a .inside), a .ready .sizes .cells)
+    pub next-small : cell + strideFor p < 3712
+    next-small = omega (arith, next-place, place-in (p .m) (p .ex) (p .ey) (y + (i + 1)) y (omega (arith, a .inside, a .steps .wide)) (a .inside), a .ready .sizes .cells)
 
-    module _ (b c : ℕ) (eb : b ≡ getD val (p - 1) 0) (ec : c ≡ pick three (getD val (p - strideOf m ey - 1) 0) 0) where
-      by-third : (t : Bool) → pick t (getD val (p - strideOf m ey - 1) 0) 0 ≡ across k f sa sc t (y + i) y
-      by-third true = across-is i (a .rows) (a .inside) (a .deep) p (a .at) l
+    module _ (b c : ℕ) (eb : b ≡ getD val (cell - 1) 0) (ec : c ≡ pick (eqb (p .k) 3) (getD val (cell - strideFor p - 1) 0) 0) where
+      by-third : (t : Bool) → pick t (getD val (cell - strideFor p - 1) 0) 0 ≡ across (p .k) (p .f) sa sc t (y + i) y
+      by-third true = across-is i (a .rows) (a .inside) (a .steps .deep) cell (a .at) l
       by-third false = refl
 
-      next-is : sum + b + c ≡ W k f sa sc (y + (i + 1)) y
+      next-is : sum + b + c ≡ W (p .k) (p .f) sa sc (y + (i + 1)) y
       next-is =
           let e : y + (i + 1) ≡ suc (y + i) = omega arith in
           rw e (omega (
             arith,
             a .is,
-            eb ∙ below-is i (a .rows) (a .inside) (a .deep) p (a .at) l,
-            ec ∙ by-third three,
-            corner-next k f sa sc (a .ready .slopes) (a .slope) three (a .corner) (y + i) y,
+            eb ∙ below-is i (a .rows) (a .inside) (a .steps .deep) cell (a .at) l,
+            ec ∙ by-third (eqb (p .k) 3),
+            corner-next (p .k) (p .f) sa sc (a .ready .slopes) (a .steps .slope) _ (a .steps .corner) (y + i) y,
           ))
 
-      pub along-over : 2 ^ 64 ≤ sum + b + c → 2 ^ 64 ≤ W k f sa sc ex ey
+      pub along-over : 2 ^ 64 ≤ sum + b + c → 2 ^ 64 ≤ W (p .k) (p .f) sa sc (p .ex) (p .ey)
       along-over h =
-          omega (arith, next-is, corner-most k f sa sc (a .ready .slopes) (a .slope) three (a .corner) (y + (i + 1)) y ey (a .inside) (a .wide) (omega arith))
+          omega (arith, next-is, corner-most (p .k) (p .f) sa sc (a .ready .slopes) (a .steps .slope) _ (a .steps .corner) (y + (i + 1)) y (p .ey) (a .inside) (a .steps .wide) (omega arith))
 
-      pub along-next : (q s : ℕ) → q ≡ p + strideOf m ey → s ≡ sum + b + c → Along three few k f sa sc off hi m ex ey y (set val q s) q s (i + 1)
+      pub along-next : (q s : ℕ) → q ≡ cell + strideFor p → s ≡ sum + b + c → Along p sa sc off y (set val q s) q s (i + 1)
       along-next q s eq es =
-          let z : q ≡ place m ey (y + (i + 1)) y = eq ∙ next-place in
-          let v : s ≡ W k f sa sc (y + (i + 1)) y = es ∙ next-is in
+          let z : q ≡ place (p .m) (p .ey) (y + (i + 1)) y = eq ∙ next-place in
+          let v : s ≡ W (p .k) (p .f) sa sc (y + (i + 1)) y = es ∙ next-is in
           record {
             ready = ready-len (a .ready) (length-set val q s);
-            corner = a .corner;
-            slope = a .slope;
-            deep = a .deep;
-            wide = a .wide;
+            steps = a .steps;
             inside = a .inside;
             rows = rows-more (a .rows) (a .inside) q s z (omega (arith, next-in, eq)) (omega arith) v;
             le = omega arith;
@@ -447,19 +436,15 @@ module _ {three few : Bool} {k f : ℕ} {sa sc off : List ℕ} {hi m ex ey y : �
 
 -- ---- the loop over the rows
 
-pub rowing-of : {few : Bool} {k f : ℕ} {sa sc off : List ℕ} {hi m ex ey : ℕ} {val : List ℕ} {y : ℕ} → Ready few k f sa sc off hi m ex ey val → Cornered k f sa sc hi m ex ey → Rows k f sa sc m ey (ex - ey) val y 0
-    → y ≤ ey → Rowing (eqb k 3) few k f sa sc off hi m ex ey val y
-rowing-of r c rs l = record { ready = r; corner = c .corner; slope = c .slope; deep = c .deep; wide = c .wide; rows = rs; inside = l }
+module _ {p : plans.Plan} {sa sc : List ℕ} {val : List ℕ} where
+  pub risen-of : {off : List ℕ} {y : ℕ} → PreparedFor p sa sc off (length val) → Cornered p sa sc → RowsFor p sa sc val y 0 → y ≡ p .ey + 1 → Risen p sa sc val true
+  risen-of r c rs e = record {
+    got = λ q. record { table = rows-got (r .slopes) (c .slope) _ (c .corner) (c .wide) (rw e at rs); start = omega arith; end = omega arith };
+    over = λ q. absurd (subst T q tt);
+  }
 
-pub risen-of : {few : Bool} {k f : ℕ} {sa sc off : List ℕ} {hi m ex ey : ℕ} {val : List ℕ} {y : ℕ} → Ready few k f sa sc off hi m ex ey val → Cornered k f sa sc hi m ex ey → Rows k f sa sc m ey (ex - ey) val y 0
-    → y ≡ ey + 1 → Risen k f sa sc hi m ex ey val true
-risen-of {k = k} r c rs e = record {
-  got = λ q. rows-got (r .slopes) (c .slope) (eqb k 3) (c .corner) (c .wide) (rw e at rs);
-  over = λ q. absurd (subst T q tt);
-}
+  pub risen-over : {r : Bool} → 2 ^ 64 ≤ walksFor p sa sc → r ≡ false → Risen p sa sc val r
+  risen-over h e = record { got = λ q. absurd (subst T (sym q ∙ e) tt); over = λ q. h }
 
-pub risen-over : {k f : ℕ} {sa sc : List ℕ} {hi m ex ey : ℕ} {val : List ℕ} {r : Bool} → 2 ^ 64 ≤ W k f sa sc ex ey → r ≡ false → Risen k f sa sc hi m ex ey val r
-risen-over h e = record { got = λ q. absurd (subst T (sym q ∙ e) tt); over = λ q. h }
-
-pub rows-over : {k f : ℕ} {sa sc : List ℕ} {hi m ex ey : ℕ} {val : List ℕ} → 2 ^ 64 ≤ W k f sa sc ex ey → Filled k f sa sc hi m ex ey val Over
-rows-over {k} {f} {sa} {sc} {hi} {m} {ex} {ey} h = record { answer = sym (cap-ge (W k f sa sc ex ey) h); solid = λ n. absurd (n refl) }
+  pub rows-over : 2 ^ 64 ≤ walksFor p sa sc → Filled p sa sc val Over
+  rows-over h = record { answer = sym (cap-ge (walksFor p sa sc) h); solid = λ n. absurd (n refl) }

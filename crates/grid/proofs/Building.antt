@@ -5,7 +5,6 @@
 --   write-turn, write-done       a byte written in front of the others, and all of them
 --   Writing, writing-start, written, writing-end    the loop of `spell`
 use mathlib.Core.Path.{_≡_, refl, sym, ap, ap₂, _∙_}
-use mathlib.Core.Bool.{Bool}
 use mathlib.Core.Option.{Option, some}
 use mathlib.Core.List.{List, [], _∷_, _++_, map, reverse, reverse-cons, reverse-reverse, append-nil}
 use Prim.Native.Nat.{ℕ, zero, suc, _+_, _-_, _*_, _^_, _≤_, _<_}
@@ -26,13 +25,16 @@ use Rattle.backward.proofs.Grids.{grid-lawful}
 use Rattle.grid.specs.Form.{wall, stepsIn, spot, W, via}
 use Rattle.letters.specs.Letters.{glyphOf}
 use Rattle.grid.specs.Cells.{place}
+use Rattle.grid.specs.declared.plan.Plan as plans
 use Rattle.grid.specs.Table.{Slopes}
-use Rattle.grid.specs.Edges.{endOf, edgeOf, Stand, Reads, Sought, Spelling}
+use Rattle.grid.specs.Edges.{endOf, edgeOf, Reads, Sought}
+use Rattle.grid.specs.Plans.{walksFor, edgeFor}
+use Rattle.grid.specs.Filling.{Full}
 use Rattle.grid.proofs.Walls.{tested, wall-start}
 use Rattle.grid.proofs.Laws.{onward, sum-more, via-in, via-left, via-under, W-start, W-out, W-step}
 use Rattle.grid.proofs.Counts.{pos-of}
 use Rattle.grid.proofs.Reading.{back-is, end-in}
-use Rattle.grid.proofs.Numbers.{brought, reads-at, stand-back}
+use Rattle.grid.proofs.Numbers.{brought, Stand, reads-at, stand-back}
 
 -- ---- the loop of `seek`: i steps are passed, which stand for all of r but left
 
@@ -119,61 +121,61 @@ write-done buf t u s n e = sym (reverse-reverse (drop s buf)) ∙ ap reverse (sy
 
 -- ---- the loop of `spell`
 
-pub record Writing (corner few : Bool) (k f : ℕ) (sa sc off : List ℕ) (hi m ex ey : ℕ) (val : List ℕ) (r : ℕ) (buf₀ buf : List ℕ) (x y p left s : ℕ) : Type 0 where
-  pub spelling : Spelling few k f sa sc off hi m ex ey val r
-  pub stand : Stand k f sa sc hi m ex ey x y p
-  pub less : left < W k f sa sc x y
+pub record Writing (p : plans.Plan) (sa sc off val : List ℕ) (r : ℕ) (buf₀ buf : List ℕ) (x y cell left s : ℕ) : Type 0 where
+  pub full : Full p sa sc off val
+  pub stand : Stand p sa sc x y cell
+  pub less : left < W (p .k) (p .f) sa sc x y
   pub x-le : x ≤ s
   pub s-le : s ≤ 128
   pub room : length buf ≡ 128
-  pub so-far : reverse (drop s buf) ++ map (glyphOf corner) (unr k f sa sc x y left) ≡ map (glyphOf corner) (unr k f sa sc ex ey r)
+  pub so-far : reverse (drop s buf) ++ map (glyphOf (p .corner)) (unr (p .k) (p .f) sa sc x y left) ≡ map (glyphOf (p .corner)) (unr (p .k) (p .f) sa sc (p .ex) (p .ey) r)
 
-pub record Written (corner few : Bool) (k f : ℕ) (sa sc off : List ℕ) (hi m ex ey : ℕ) (val : List ℕ) (r : ℕ) (buf₀ buf : List ℕ) (x y p s l rest : ℕ) : Type 0 where
+pub record Written (p : plans.Plan) (sa sc off val : List ℕ) (r : ℕ) (buf₀ buf : List ℕ) (x y cell s l rest : ℕ) : Type 0 where
   pub below : l < 8
   pub byte : l * 8 < 2 ^ 64
   pub least : 1 ≤ s
   pub inside : s - 1 < length buf
   pub right : getD sa l 0 ≤ x
   pub up : getD sc l 0 ≤ y
-  pub far : getD off l 0 ≤ p
+  pub far : getD off l 0 ≤ cell
   pub ahead : x - getD sa l 0 < x
-  pub next : (v : ℕ) → v ≡ glyphOf corner l → Writing corner few k f sa sc off hi m ex ey val r buf₀ (set buf (s - 1) v) (x - getD sa l 0) (y - getD sc l 0) (p - getD off l 0) rest (s - 1)
+  pub next : (v : ℕ) → v ≡ glyphOf (p .corner) l → Writing p sa sc off val r buf₀ (set buf (s - 1) v) (x - getD sa l 0) (y - getD sc l 0) (cell - getD off l 0) rest (s - 1)
 
-module _ {corner few : Bool} {k f : ℕ} {sa sc off : List ℕ} {hi m ex ey : ℕ} {val : List ℕ} {r : ℕ} {buf₀ : List ℕ} where
-  pub writing-start : Spelling few k f sa sc off hi m ex ey val r → length buf₀ ≡ 128 → (p : ℕ) → p ≡ place m ey ex ey → Writing corner few k f sa sc off hi m ex ey val r buf₀ buf₀ ex ey p r 128
-  writing-start sp long p ep = record {
-    spelling = sp;
-    stand = record { end = omega arith; ends = (omega arith, omega arith); at = ep; fits = sp .fits };
-    less = sp .less;
-    x-le = omega (arith, sp .ready .sizes .ex-le);
+module _ {p : plans.Plan} {sa sc off val : List ℕ} {r : ℕ} {buf₀ : List ℕ} where
+  pub writing-start : Full p sa sc off val → r < walksFor p sa sc → length buf₀ ≡ 128 → (cell : ℕ) → cell ≡ place (p .m) (p .ey) (p .ex) (p .ey) → Writing p sa sc off val r buf₀ buf₀ (p .ex) (p .ey) cell r 128
+  writing-start fu less long cell ep = record {
+    full = fu;
+    stand = record { end = omega arith; ends = (omega arith, omega arith); at = ep; fits = fu .fits };
+    less = less;
+    x-le = omega (arith, fu .ready .sizes .ex-le);
     s-le = omega arith;
     room = long;
     so-far = write-start buf₀ _ 128 long;
   }
 
-  module _ {buf : List ℕ} {x y p left s : ℕ} (w : Writing corner few k f sa sc off hi m ex ey val r buf₀ buf x y p left s) where
-    plan-of : Slopes k sa sc hi m ex
-    plan-of = w .spelling .ready .slopes
+  module _ {buf : List ℕ} {x y cell left s : ℕ} (w : Writing p sa sc off val r buf₀ buf x y cell left s) where
+    plan-of : Slopes (p .k) sa sc (p .hi) (p .m) (p .ex)
+    plan-of = w .full .ready .slopes
 
-    pub writing-end : x ≤ 0 → (s ≤ 128) × (drop s buf ≡ edgeOf corner k f sa sc ex ey r)
+    pub writing-end : x ≤ 0 → (s ≤ 128) × (drop s buf ≡ edgeFor p sa sc r)
     unfolding edgeOf unr
     writing-end h = (
       w .s-le,
-      write-done buf _ (map (glyphOf corner) (unr k f sa sc ex ey r)) s (ap (map (glyphOf corner)) (unr-start k f sa sc (pos-of plan-of) x y left h (w .less))) (w .so-far)
-          ∙ map-reverse (glyphOf corner) (unr k f sa sc ex ey r),
+      write-done buf _ (map (glyphOf (p .corner)) (unr (p .k) (p .f) sa sc (p .ex) (p .ey) r)) s (ap (map (glyphOf (p .corner))) (unr-start (p .k) (p .f) sa sc (pos-of plan-of) x y left h (w .less))) (w .so-far)
+          ∙ map-reverse (glyphOf (p .corner)) (unr (p .k) (p .f) sa sc (p .ex) (p .ey) r),
     )
 
     module _ (px : 0 < x) where
-      inside-of : T (wall f x y)
-      inside-of = W-in k f sa sc (pos-of plan-of) x y left (w .less)
+      inside-of : T (wall (p .f) x y)
+      inside-of = W-in (p .k) (p .f) sa sc (pos-of plan-of) x y left (w .less)
 
-      pub reads-of : Reads k f sa sc off val x y p
-      reads-of = reads-at (w .spelling .ready) (w .spelling .solid) (w .stand) px inside-of
+      pub reads-of : Reads (p .k) (p .f) sa sc off val x y cell
+      reads-of = reads-at (w .full) (w .stand) px inside-of
 
-      pub left-of : left < sum (via k f sa sc x y) k
-      left-of = omega (arith, w .less, W-step k f sa sc (pos-of plan-of) x y px inside-of)
+      pub left-of : left < sum (via (p .k) (p .f) sa sc x y) (p .k)
+      left-of = omega (arith, w .less, W-step (p .k) (p .f) sa sc (pos-of plan-of) x y px inside-of)
 
-      pub written : (l rest : ℕ) → Sought (via k f sa sc x y) k left l rest → Written corner few k f sa sc off hi m ex ey val r buf₀ buf x y p s l rest
+      pub written : (l rest : ℕ) → Sought (via (p .k) (p .f) sa sc x y) (p .k) left l rest → Written p sa sc off val r buf₀ buf x y cell s l rest
       written l rest so = record {
         below = omega (arith, plan-of .most, so .falls .inside);
         byte = omega (arith, plan-of .most, so .falls .inside);
@@ -184,21 +186,21 @@ module _ {corner few : Bool} {k f : ℕ} {sa sc off : List ℕ} {hi m ex ey : �
         far = reads-of .back l (so .falls .inside) (vp .0);
         ahead = omega (arith, vp .0, go-on);
         next = λ v ev. record {
-          spelling = w .spelling;
-          stand = stand-back (w .spelling .ready) (w .spelling .solid) (w .stand) px inside-of l _ _ _ (so .falls .inside) refl refl refl (vp .0) (vp .1);
+          full = w .full;
+          stand = stand-back (w .full) (w .stand) px inside-of l _ _ _ (so .falls .inside) refl refl refl (vp .0) (vp .1);
           less = vp .2;
           x-le = omega (arith, w .x-le, go-on);
           s-le = omega (arith, w .s-le);
           room = simp length-set (w .room);
-          so-far = write-turn buf s v (map (glyphOf corner) (unr k f sa sc x y left)) _ (omega (arith, w .x-le)) (omega (arith, w .s-le, w .room)) (letters v ev) ∙ w .so-far;
+          so-far = write-turn buf s v (map (glyphOf (p .corner)) (unr (p .k) (p .f) sa sc x y left)) _ (omega (arith, w .x-le)) (omega (arith, w .s-le, w .room)) (letters v ev) ∙ w .so-far;
         };
       }
         where
-          vp : (getD sa l 0 ≤ x) × (getD sc l 0 ≤ y) × (rest < W k f sa sc (x - getD sa l 0) (y - getD sc l 0))
-          vp = via-pos k f sa sc (pos-of plan-of) x y l rest (omega (arith, so .left, so .falls .high))
+          vp : (getD sa l 0 ≤ x) × (getD sc l 0 ≤ y) × (rest < W (p .k) (p .f) sa sc (x - getD sa l 0) (y - getD sc l 0))
+          vp = via-pos (p .k) (p .f) sa sc (pos-of plan-of) x y l rest (omega (arith, so .left, so .falls .high))
 
           go-on : 1 ≤ getD sa l 0
           go-on = pos-of plan-of l (so .falls .inside)
 
-          letters : (v : ℕ) → v ≡ glyphOf corner l → map (glyphOf corner) (unr k f sa sc x y left) ≡ v ∷ map (glyphOf corner) (unr k f sa sc (x - getD sa l 0) (y - getD sc l 0) rest)
-          letters v ev = ap (map (glyphOf corner)) (unr-step k f sa sc (pos-of plan-of) x y left l rest inside-of so (vp .0) (vp .1)) ∙ ap (λ (z : ℕ). z ∷ map (glyphOf corner) (unr k f sa sc (x - getD sa l 0) (y - getD sc l 0) rest)) (sym ev)
+          letters : (v : ℕ) → v ≡ glyphOf (p .corner) l → map (glyphOf (p .corner)) (unr (p .k) (p .f) sa sc x y left) ≡ v ∷ map (glyphOf (p .corner)) (unr (p .k) (p .f) sa sc (x - getD sa l 0) (y - getD sc l 0) rest)
+          letters v ev = ap (map (glyphOf (p .corner))) (unr-step (p .k) (p .f) sa sc (pos-of plan-of) x y left l rest inside-of so (vp .0) (vp .1)) ∙ ap (λ (z : ℕ). z ∷ map (glyphOf (p .corner)) (unr (p .k) (p .f) sa sc (x - getD sa l 0) (y - getD sc l 0) rest)) (sym ev)

@@ -1,7 +1,7 @@
 -- The reply to building edges, for each way over the table. Assumes nothing.
 --
 --   front-of                    an edge copied from the end of a buffer
---   spelling-of                 each number of the list can be spelt; front-next: it is the next of the lines
+--   front-next                  it is the next of the lines
 --   below-told                  a test of the numbers against the table's count
 --   for-over, for-beyond, for-all    what is answered by the table's count and the numbers
 --   build-over, build-none, build-empty    the count needs more than 64 bits; it is 0, and there are numbers or none
@@ -39,10 +39,11 @@ use Rattle.lines.specs.Lines.{endsFrom, lined, LinedAs}
 use Rattle.lines.proofs.Lining.{Lining, lining-next, lined-refused}
 use Rattle.grid.specs.Form.{W}
 use Rattle.grid.specs.Edges as edges
-use Rattle.grid.specs.Edges.{Spelling}
 use Rattle.grid.specs.Shapes.{Grids}
-use Rattle.grid.specs.Spelling.{Front, Spells, edgesBy, edgesFor}
+use Rattle.grid.specs.Spelling.{Front, edgesFor}
 use Rattle.grid.specs.Calls.{forGrid, edgesOf}
+use Rattle.grid.specs.Plans.{walksFor, ListsFor, BuildsFor}
+use Rattle.grid.specs.declared.plan.Plan.{Plan}
 use Rattle.grid.specs.declared.shape.Shape.{Shape}
 use Rattle.grid.proofs.Grounds.{shape-count}
 use Rattle.grid.proofs.Worded.{shape-spells}
@@ -59,10 +60,6 @@ front-of e buf old new at len x q a l z h b =
     let c = rw (whole, le-leb (length e) (length old) (omega arith)) at (b .output) in
     record { shown = c ∙ ap (λ (k : ℕ). e ++ drop k old) (sym long); long = long; short = omega arith }
 
-module _ (corner few : Bool) (k f : ℕ) (sa sc off : List ℕ) (hi m ex ey : ℕ) (val ns : List ℕ) (s : Spells few k f sa sc off hi m ex ey val ns) where
-  pub spelling-of : (i : ℕ) → i < length ns → Spelling few k f sa sc off hi m ex ey val (getD ns i 0)
-  spelling-of i l = record { ready = s .ready; solid = s .solid; fits = s .fits; less = below-at (W k f sa sc ex ey) ns (holds (s .below)) i l }
-
 pub front-next : (g : ℕ → List ℕ) (ns steps ends : List ℕ) (i at : ℕ) (s t : List ℕ) → Lining g ns steps ends i at s t
     → (n : ℕ) (part : List ℕ) → i < length ns → Front (g (getD ns i 0)) (take (length s - at) (drop at s)) part n
     → Lining g ns steps ends (i + 1) (at + n) (putMid at (length s - at) s part) (set t i (at + n))
@@ -73,19 +70,19 @@ front-next g ns steps ends i at s t so n part l w = lining-next g ns steps ends 
 pub below-told : (ns : List ℕ) (w c : ℕ) (t : Bool) → c ≡ w → t ≡ allBelow c ns → allBelow w ns ≡ t
 below-told ns w c t e q = sym (q ∙ ap (λ (z : ℕ). allBelow z ns) e)
 
-module _ (corner : Bool) (k f : ℕ) (sa sc : List ℕ) (ex ey : ℕ) (ns steps ends : List ℕ) where
-  pub for-over : 2 ^ 64 ≤ W k f sa sc ex ey → LinedAs (lined (edgesFor corner k f sa sc ex ey ns) steps ends) (Refused 4) steps ends
+module _ (p : Plan) (sa sc ns steps ends : List ℕ) where
+  pub for-over : 2 ^ 64 ≤ walksFor p sa sc → BuildsFor p sa sc ns steps ends steps ends (Refused 4)
   unfolding refusalNumber
-  for-over l = lined-refused (edgesFor corner k f sa sc ex ey ns) over 4 steps ends (rw (lt-leb (W k f sa sc ex ey) most (omega arith)) refl) refl
+  for-over l = lined-refused (edgesFor (p .corner) (p .k) (p .f) sa sc (p .ex) (p .ey) ns) over 4 steps ends (rw (lt-leb (walksFor p sa sc) most (omega arith)) refl) refl
 
-  pub for-beyond : W k f sa sc ex ey < 2 ^ 64 → allBelow (W k f sa sc ex ey) ns ≡ false → LinedAs (lined (edgesFor corner k f sa sc ex ey ns) steps ends) (Refused 6) steps ends
+  pub for-beyond : walksFor p sa sc < 2 ^ 64 → allBelow (walksFor p sa sc) ns ≡ false → BuildsFor p sa sc ns steps ends steps ends (Refused 6)
   unfolding refusalNumber
   for-beyond l e =
-      lined-refused (edgesFor corner k f sa sc ex ey ns) beyond 6 steps ends (rw (le-leb (W k f sa sc ex ey) most (omega arith), e) refl) refl
+      lined-refused (edgesFor (p .corner) (p .k) (p .f) sa sc (p .ex) (p .ey) ns) beyond 6 steps ends (rw (le-leb (walksFor p sa sc) most (omega arith), e) refl) refl
 
-  pub for-all : (x : Built) (s t : List ℕ) → W k f sa sc ex ey < 2 ^ 64 → allBelow (W k f sa sc ex ey) ns ≡ true
-      → LinedAs (lined (accepted (edgesBy corner k f sa sc ex ey ns)) steps ends) x s t → LinedAs (lined (edgesFor corner k f sa sc ex ey ns) steps ends) x s t
-  for-all x s t l e w = rw (le-leb (W k f sa sc ex ey) most (omega arith), e) w
+  pub for-all : (n : ℕ) (s t : List ℕ) → walksFor p sa sc < 2 ^ 64 → allBelow (walksFor p sa sc) ns ≡ true
+      → ListsFor p sa sc ns steps ends s t n → BuildsFor p sa sc ns steps ends s t (Length n)
+  for-all n s t l e w = rw (le-leb (walksFor p sa sc) most (omega arith), e) w
 
 -- ---- by the shape's state
 

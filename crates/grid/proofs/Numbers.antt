@@ -3,6 +3,7 @@
 --   brought                      what a last step stands for, in the reader's words and in the table's
 --   Read, read-of                what a valid edge's last letter says
 --   num, num-all, num-none, num-step, num-below    the number of the first i letters, to (x, y)
+--   Stand                        (x, y) at a cell lies before the end, and its count fits
 --   reads-at, stand-back         what can be read at a cell that stands before the end, and one step back
 --   read-in, read-is, read-more  the loop of `part_sum`
 --   Walking, walking-start, last-in, stepped, walking-end   the loop of `rank`
@@ -24,10 +25,12 @@ use Rattle.backward.proofs.Backward.{rank-below}
 use Rattle.backward.proofs.Grids.{grid-lawful, back-count}
 use Rattle.grid.specs.Form.{wall, stepsIn, spot, W, via}
 use Rattle.letters.specs.Letters.{placeOf}
-use Rattle.grid.specs.Cells.{capOf, cellAt, strideOf, place, sourceOf}
-use Rattle.grid.specs.Table.{Slopes, Prepared, Cells}
-use Rattle.grid.specs.Filling.{Solid}
-use Rattle.grid.specs.Edges.{endOf, numberOf, Stand, Reads, Ranking}
+use Rattle.grid.specs.Cells.{capOf, cellAt, place, sourceOf}
+use Rattle.grid.specs.declared.plan.Plan as plans
+use Rattle.grid.specs.Table.{Slopes, Ends, Cells}
+use Rattle.grid.specs.Plans.{strideFor, validFor, rankFor}
+use Rattle.grid.specs.Filling.{Solid, Full}
+use Rattle.grid.specs.Edges.{endOf, numberOf, Reads}
 use Rattle.grid.proofs.Walls.{tested}
 use Rattle.grid.proofs.Laws.{onward, sum-more, via-in, W-step, cell-value}
 use Rattle.grid.proofs.Counts.{pos-of}
@@ -99,47 +102,52 @@ module _ (corner : Bool) (k f : ℕ) (sa sc e : List ℕ) where
 
 -- ---- a filled table
 
-cells-less : {k f : ℕ} {sa sc : List ℕ} {hi m ex ey : ℕ} {val : List ℕ} (s : Solid k f sa sc hi m ex ey val) (x : ℕ) → x ≤ ex → Cells capOf (cellAt val (s .ov)) k f sa sc hi m ex ey x
+pub record Stand (p : plans.Plan) (sa sc : List ℕ) (x y cell : ℕ) : Type 0 where
+  pub end : x ≤ p .ex
+  pub ends : Ends (p .hi) (p .ex) (p .ey) x y
+  pub at : cell ≡ place (p .m) (p .ey) x y
+  pub fits : W (p .k) (p .f) sa sc x y < 2 ^ 64
+
+cells-less : {p : plans.Plan} {sa sc val : List ℕ} (s : Solid p sa sc val) (x : ℕ) → x ≤ p .ex → Cells capOf (cellAt val (s .ov)) (p .k) (p .f) sa sc (p .hi) (p .m) (p .ex) (p .ey) x
 cells-less s x l = record { right = λ u y h en. s .flags .right u y (omega arith) en; margin = s .flags .margin; front = s .flags .front }
 
-module _ {few : Bool} {k f : ℕ} {sa sc off : List ℕ} {hi m ex ey : ℕ} {val : List ℕ} (r : Prepared few k f sa sc off hi m ex ey (length val)) (so : Solid k f sa sc hi m ex ey val) {x y p : ℕ}
-    (sp : Stand k f sa sc hi m ex ey x y p) (px : 1 ≤ x) (ins : T (wall f x y)) where
-  all-of : W k f sa sc x y ≡ sum (via k f sa sc x y) k
-  all-of = W-step k f sa sc (pos-of (r .slopes)) x y px ins
+module _ {p : plans.Plan} {sa sc off val : List ℕ} (fu : Full p sa sc off val) {x y cell : ℕ} (sp : Stand p sa sc x y cell) (px : 1 ≤ x) (ins : T (wall (p .f) x y)) where
+  all-of : W (p .k) (p .f) sa sc x y ≡ sum (via (p .k) (p .f) sa sc x y) (p .k)
+  all-of = W-step (p .k) (p .f) sa sc (pos-of (fu .ready .slopes)) x y px ins
 
-  via-le : (i : ℕ) → i < k → via k f sa sc x y i ≤ W k f sa sc x y
-  via-le i l = omega (arith, all-of, sum-below (via k f sa sc x y) i k l)
+  via-le : (i : ℕ) → i < p .k → via (p .k) (p .f) sa sc x y i ≤ W (p .k) (p .f) sa sc x y
+  via-le i l = omega (arith, all-of, sum-below (via (p .k) (p .f) sa sc x y) i (p .k) l)
 
-  row-in : (x + 1) * strideOf m ey + strideOf m ey ≤ length val
-  row-in = omega (arith, r .room, last-row x (strideOf m ey), grow (strideOf m ey) (x + 2) (ex + 2) (omega (arith, sp .end)))
+  row-in : (x + 1) * strideFor p + strideFor p ≤ length val
+  row-in = omega (arith, fu .ready .room, last-row x (strideFor p), grow (strideFor p) (x + 2) (p .ex + 2) (omega (arith, sp .end)))
 
-  eight : (i : ℕ) → i < k → i < 8
-  eight i l = omega (arith, r .slopes .most)
+  eight : (i : ℕ) → i < p .k → i < 8
+  eight i l = omega (arith, fu .ready .slopes .most)
 
-  pub reads-at : Reads k f sa sc off val x y p
+  pub reads-at : Reads (p .k) (p .f) sa sc off val x y cell
   reads-at = rw (sp .at) (record {
-    most = r .slopes .most;
-    back = λ i l ha. omega (arith, r .offs .is i (eight i l), r .slopes .deep i (eight i l) (omega (arith, sp .end)), rows (strideOf m ey) x (getD sa i 0) ha);
+    most = fu .ready .slopes .most;
+    back = λ i l ha. omega (arith, fu .ready .offs .is i (eight i l), fu .ready .slopes .deep i (eight i l) (omega (arith, sp .end)), rows (strideFor p) x (getD sa i 0) ha);
     in-val = λ i l. elim (decLe (getD sa i 0) x) [
-      | yes ha ↦ rw (source-in sa off x (place m ey x y) i ha) (omega (arith, row-in, sp .ends .0))
-      | no ha ↦ rw (source-left sa off x (place m ey x y) i (omega arith)) (omega (arith, row-in))
+      | yes ha ↦ rw (source-in sa off x (place (p .m) (p .ey) x y) i ha) (omega (arith, row-in, sp .ends .0))
+      | no ha ↦ rw (source-left sa off x (place (p .m) (p .ey) x y) i (omega arith)) (omega (arith, row-in))
     ];
-    says = λ i l. cell-value _ (getD (so .ov) (sourceOf sa off x (place m ey x y) i) 0) _
-        (rw (add-zero (sourceOf sa off x (place m ey x y) i), add-zero y) at (brings (r .slopes) (r .offs) (cells-less so x (sp .end)) px (sp .end) y 0 i (eight i l)
+    says = λ i l. cell-value _ (getD (fu .solid .ov) (sourceOf sa off x (place (p .m) (p .ey) x y) i) 0) _
+        (rw (add-zero (sourceOf sa off x (place (p .m) (p .ey) x y) i), add-zero y) at (brings (fu .ready .slopes) (fu .ready .offs) (cells-less (fu .solid) x (sp .end)) px (sp .end) y 0 i (eight i l)
         (omega (arith, sp .ends .0)) (omega (arith, sp .ends .1))))
         (omega (arith, via-le i l, sp .fits));
     fits = omega (arith, all-of, sp .fits);
   })
 
-  pub stand-back : (l a c o : ℕ) → l < k → a ≡ getD sa l 0 → c ≡ getD sc l 0 → o ≡ getD off l 0 → getD sa l 0 ≤ x → getD sc l 0 ≤ y → Stand k f sa sc hi m ex ey (x - a) (y - c) (p - o)
+  pub stand-back : (l a c o : ℕ) → l < p .k → a ≡ getD sa l 0 → c ≡ getD sc l 0 → o ≡ getD off l 0 → getD sa l 0 ≤ x → getD sc l 0 ≤ y → Stand p sa sc (x - a) (y - c) (cell - o)
   stand-back l a c o h ea ec eo ha hc = rw (ea, ec, eo) (record {
     end = omega (arith, sp .end);
-    ends = (omega (arith, sp .ends .0), omega (arith, sp .ends .1, r .slopes .steep l (eight l h) (omega (arith, sp .end)), mul-add hi (ex - x) (getD sa l 0), ap (λ (z : ℕ). hi * z) further));
-    at = omega (arith, sp .at, r .offs .is l (eight l h), rows (strideOf m ey) x (getD sa l 0) ha);
-    fits = omega (arith, via-le l h, sp .fits, via-in k f sa sc x y l ha hc);
+    ends = (omega (arith, sp .ends .0), omega (arith, sp .ends .1, fu .ready .slopes .steep l (eight l h) (omega (arith, sp .end)), mul-add (p .hi) (p .ex - x) (getD sa l 0), ap (λ (z : ℕ). p .hi * z) further));
+    at = omega (arith, sp .at, fu .ready .offs .is l (eight l h), rows (strideFor p) x (getD sa l 0) ha);
+    fits = omega (arith, via-le l h, sp .fits, via-in (p .k) (p .f) sa sc x y l ha hc);
   })
     where
-      further : ex - (x - getD sa l 0) ≡ ex - x + getD sa l 0
+      further : p .ex - (x - getD sa l 0) ≡ p .ex - x + getD sa l 0
       further = omega (arith, sp .end)
 
 module _ {k f : ℕ} {sa sc off val : List ℕ} {x y p : ℕ} (rd : Reads k f sa sc off val x y p) (i : ℕ) (h : i < k) {s : ℕ} (es : s ≡ sourceOf sa off x p i) where
@@ -157,43 +165,45 @@ module _ {k f : ℕ} {sa sc off val : List ℕ} {x y p : ℕ} (rd : Reads k f sa
 
 -- ---- the loop of `rank`
 
-pub record Walking (corner few : Bool) (k f : ℕ) (sa sc off : List ℕ) (hi m ex ey : ℕ) (val e : List ℕ) (acc x y p i : ℕ) : Type 0 where
-  pub ranking : Ranking corner few k f sa sc off hi m ex ey val e
+pub record Walking (p : plans.Plan) (sa sc off val e : List ℕ) (acc x y cell i : ℕ) : Type 0 where
+  pub full : Full p sa sc off val
+  pub edge : validFor p sa sc e ≡ true
   pub i-le : i ≤ length e
-  pub valid : ok corner k f sa sc e i x y ≡ true
-  pub stand : Stand k f sa sc hi m ex ey x y p
-  pub total : acc + num corner k f sa sc e i x y ≡ numberOf corner k f sa sc ex ey e
+  pub valid : ok (p .corner) (p .k) (p .f) sa sc e i x y ≡ true
+  pub stand : Stand p sa sc x y cell
+  pub total : acc + num (p .corner) (p .k) (p .f) sa sc e i x y ≡ rankFor p sa sc e
 
-pub record Stepped (corner few : Bool) (k f : ℕ) (sa sc off : List ℕ) (hi m ex ey : ℕ) (val e : List ℕ) (acc x y p i l : ℕ) : Type 0 where
+pub record Stepped (p : plans.Plan) (sa sc off val e : List ℕ) (acc x y cell i l : ℕ) : Type 0 where
   pub fewer : i - 1 < i
-  pub below : l ≤ k
+  pub below : l ≤ p .k
   pub eight : l < 8
   pub byte : l * 8 < 2 ^ 64
-  pub reads : Reads k f sa sc off val x y p
+  pub reads : Reads (p .k) (p .f) sa sc off val x y cell
   pub right : getD sa l 0 ≤ x
   pub up : getD sc l 0 ≤ y
-  pub far : getD off l 0 ≤ p
-  pub fits : (v : ℕ) → v ≡ sum (via k f sa sc x y) l → acc + v < 2 ^ 64
-  pub next : (v : ℕ) → v ≡ sum (via k f sa sc x y) l → Walking corner few k f sa sc off hi m ex ey val e (acc + v) (x - getD sa l 0) (y - getD sc l 0) (p - getD off l 0) (i - 1)
+  pub far : getD off l 0 ≤ cell
+  pub fits : (v : ℕ) → v ≡ sum (via (p .k) (p .f) sa sc x y) l → acc + v < 2 ^ 64
+  pub next : (v : ℕ) → v ≡ sum (via (p .k) (p .f) sa sc x y) l → Walking p sa sc off val e (acc + v) (x - getD sa l 0) (y - getD sc l 0) (cell - getD off l 0) (i - 1)
 
-module _ {corner few : Bool} {k f : ℕ} {sa sc off : List ℕ} {hi m ex ey : ℕ} {val e : List ℕ} where
-  pub walking-start : Ranking corner few k f sa sc off hi m ex ey val e → (p : ℕ) → p ≡ place m ey ex ey → Walking corner few k f sa sc off hi m ex ey val e 0 ex ey p (length e)
-  walking-start rk p ep = record {
-    ranking = rk;
+module _ {p : plans.Plan} {sa sc off val e : List ℕ} where
+  pub walking-start : Full p sa sc off val → validFor p sa sc e ≡ true → (cell : ℕ) → cell ≡ place (p .m) (p .ey) (p .ex) (p .ey) → Walking p sa sc off val e 0 (p .ex) (p .ey) cell (length e)
+  walking-start fu v cell ep = record {
+    full = fu;
+    edge = v;
     i-le = omega arith;
-    valid = ok-all corner k f sa sc e ex ey ∙ rk .valid;
-    stand = record { end = omega arith; ends = (omega arith, omega arith); at = ep; fits = rk .fits };
-    total = omega (arith, num-all corner k f sa sc e ex ey);
+    valid = ok-all (p .corner) (p .k) (p .f) sa sc e (p .ex) (p .ey) ∙ v;
+    stand = record { end = omega arith; ends = (omega arith, omega arith); at = ep; fits = fu .fits };
+    total = omega (arith, num-all (p .corner) (p .k) (p .f) sa sc e (p .ex) (p .ey));
   }
 
-  number-small : Ranking corner few k f sa sc off hi m ex ey val e → numberOf corner k f sa sc ex ey e < 2 ^ 64
-  number-small rk = omega (arith, rk .fits, num-all corner k f sa sc e ex ey, num-below corner k f sa sc e (pos-of (rk .ready .slopes)) (length e) ex ey (ok-all corner k f sa sc e ex ey ∙ rk .valid))
+  module _ {acc x y cell i : ℕ} (w : Walking p sa sc off val e acc x y cell i) where
+    number-small : rankFor p sa sc e < 2 ^ 64
+    number-small = omega (arith, w .full .fits, num-all (p .corner) (p .k) (p .f) sa sc e (p .ex) (p .ey), num-below (p .corner) (p .k) (p .f) sa sc e (pos-of (w .full .ready .slopes)) (length e) (p .ex) (p .ey) (ok-all (p .corner) (p .k) (p .f) sa sc e (p .ex) (p .ey) ∙ w .edge))
 
-  module _ {acc x y p i : ℕ} (w : Walking corner few k f sa sc off hi m ex ey val e acc x y p i) where
     pub last-in : 0 < i → i - 1 < length e
     last-in h = omega (arith, w .i-le)
 
-    pub stepped : (l : ℕ) → 0 < i → l ≡ placeOf corner (getD e (i - 1) 0) → Stepped corner few k f sa sc off hi m ex ey val e acc x y p i l
+    pub stepped : (l : ℕ) → 0 < i → l ≡ placeOf (p .corner) (getD e (i - 1) 0) → Stepped p sa sc off val e acc x y cell i l
     stepped l h q = record {
       fewer = omega arith;
       below = omega (arith, re .below);
@@ -203,30 +213,31 @@ module _ {corner few : Bool} {k f : ℕ} {sa sc off : List ℕ} {hi m ex ey : �
       right = re .right;
       up = re .up;
       far = rd .back l (re .below) (re .right);
-      fits = λ v ev. omega (arith, w .total, st, number-small (w .ranking));
+      fits = λ v ev. omega (arith, w .total, st, number-small);
       next = λ v ev. record {
-        ranking = w .ranking;
+        full = w .full;
+        edge = w .edge;
         i-le = omega (arith, w .i-le);
         valid = re .rest;
-        stand = stand-back (w .ranking .ready) (w .ranking .solid) (w .stand) px (re .inside) l _ _ _ (re .below) refl refl refl (re .right) (re .up);
+        stand = stand-back (w .full) (w .stand) px (re .inside) l _ _ _ (re .below) refl refl refl (re .right) (re .up);
         total = omega (arith, w .total, st);
       };
     }
       where
-        pl : Slopes k sa sc hi m ex
-        pl = w .ranking .ready .slopes
+        pl : Slopes (p .k) sa sc (p .hi) (p .m) (p .ex)
+        pl = w .full .ready .slopes
 
-        re : Read corner k f sa sc e i x y l
-        re = read-of corner k f sa sc e (pos-of pl) i x y l h q (w .valid)
+        re : Read (p .corner) (p .k) (p .f) sa sc e i x y l
+        re = read-of (p .corner) (p .k) (p .f) sa sc e (pos-of pl) i x y l h q (w .valid)
 
         px : 1 ≤ x
         px = omega (arith, pos-of pl l (re .below), re .right)
 
-        rd : Reads k f sa sc off val x y p
-        rd = reads-at (w .ranking .ready) (w .ranking .solid) (w .stand) px (re .inside)
+        rd : Reads (p .k) (p .f) sa sc off val x y cell
+        rd = reads-at (w .full) (w .stand) px (re .inside)
 
-        st : num corner k f sa sc e i x y ≡ sum (via k f sa sc x y) l + num corner k f sa sc e (i - 1) (x - getD sa l 0) (y - getD sc l 0)
-        st = num-step corner k f sa sc e (pos-of pl) i x y l h q re
+        st : num (p .corner) (p .k) (p .f) sa sc e i x y ≡ sum (via (p .k) (p .f) sa sc x y) l + num (p .corner) (p .k) (p .f) sa sc e (i - 1) (x - getD sa l 0) (y - getD sc l 0)
+        st = num-step (p .corner) (p .k) (p .f) sa sc e (pos-of pl) i x y l h q re
 
-    pub walking-end : i ≤ 0 → acc ≡ numberOf corner k f sa sc ex ey e
-    walking-end h = omega (arith, w .total, num-none corner k f sa sc e i x y h)
+    pub walking-end : i ≤ 0 → acc ≡ rankFor p sa sc e
+    walking-end h = omega (arith, w .total, num-none (p .corner) (p .k) (p .f) sa sc e i x y h)

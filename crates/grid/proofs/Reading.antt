@@ -25,9 +25,11 @@ use Rattle.backward.specs.Reader.{valid}
 use Rattle.backward.specs.Grid.{grid}
 use Rattle.backward.proofs.Backward.{valid-stop, valid-no-letter, none-valid}
 use Rattle.backward.proofs.Grids.{grid-lawful}
-use Rattle.grid.specs.Form.{wall, stepsIn, spot, Form}
+use Rattle.grid.specs.Form.{wall, stepsIn, spot}
 use Rattle.letters.specs.Letters.{placeOf}
 use Rattle.grid.specs.Edges.{endOf, isEdge}
+use Rattle.grid.specs.declared.plan.Plan.{Plan}
+use Rattle.grid.specs.Plans.{FormFor, validFor}
 use Rattle.grid.proofs.Walls.{wall-start}
 use Rattle.grid.proofs.Laws.{onward}
 
@@ -142,45 +144,45 @@ module _ (corner : Bool) (k f : ℕ) (sa sc e : List ℕ) where
 
 -- ---- the loop of `valid`
 
-pub record Checking (corner : Bool) (k f : ℕ) (sa sc : List ℕ) (top ex ey : ℕ) (e : List ℕ) (x y i : ℕ) : Type 0 where
-  pub form : Form k f sa sc top ex ey
-  pub x-le : x ≤ ex
-  pub y-le : y ≤ ey
+pub record Checking (p : Plan) (sa sc e : List ℕ) (x y i : ℕ) : Type 0 where
+  pub form : FormFor p sa sc
+  pub x-le : x ≤ p .ex
+  pub y-le : y ≤ p .ey
   pub i-le : i ≤ length e
-  pub same : ok corner k f sa sc e i x y ≡ isEdge corner k f sa sc ex ey e
+  pub same : ok (p .corner) (p .k) (p .f) sa sc e i x y ≡ validFor p sa sc e
 
-pub checking-start : {corner : Bool} {k f : ℕ} {sa sc : List ℕ} {top ex ey : ℕ} {e : List ℕ} → Form k f sa sc top ex ey → Checking corner k f sa sc top ex ey e ex ey (length e)
-checking-start {corner} {k} {f} {sa} {sc} {top} {ex} {ey} {e} fo = record { form = fo; x-le = omega arith; y-le = omega arith; i-le = omega arith; same = ok-all corner k f sa sc e ex ey }
+pub checking-start : {p : Plan} {sa sc e : List ℕ} → FormFor p sa sc → Checking p sa sc e (p .ex) (p .ey) (length e)
+checking-start {p} {sa} {sc} {e} fo = record { form = fo; x-le = omega arith; y-le = omega arith; i-le = omega arith; same = ok-all (p .corner) (p .k) (p .f) sa sc e (p .ex) (p .ey) }
 
-module _ {corner : Bool} {k f : ℕ} {sa sc : List ℕ} {top ex ey : ℕ} {e : List ℕ} {x y i : ℕ} (ch : Checking corner k f sa sc top ex ey e x y i) where
-  pub stays-fits : (f ≤ 100) × (x ≤ 97)
+module _ {p : Plan} {sa sc e : List ℕ} {x y i : ℕ} (ch : Checking p sa sc e x y i) where
+  pub stays-fits : (p .f ≤ 100) × (x ≤ 97)
   stays-fits = (omega (arith, ch .form .f-le), omega (arith, ch .x-le, ch .form .ex-le))
 
-  module _ (h : 0 < i) {l : ℕ} (q : l ≡ placeOf corner (getD e (i - 1) 0)) where
-    pub not-inside : wall f x y ≡ false → false ≡ isEdge corner k f sa sc ex ey e
-    not-inside o = sym (ok-out corner k f sa sc e (ch .form .ahead) i x y l h q (λ t. subst T o t)) ∙ ch .same
+  module _ (h : 0 < i) {l : ℕ} (q : l ≡ placeOf (p .corner) (getD e (i - 1) 0)) where
+    pub not-inside : wall (p .f) x y ≡ false → false ≡ validFor p sa sc e
+    not-inside o = sym (ok-out (p .corner) (p .k) (p .f) sa sc e (ch .form .ahead) i x y l h q (λ t. subst T o t)) ∙ ch .same
 
-    module _ (n : T (wall f x y)) where
-      pub not-letter : k ≤ l → false ≡ isEdge corner k f sa sc ex ey e
-      not-letter o = sym (ok-no-letter corner k f sa sc e (ch .form .ahead) i x y l h q n o) ∙ ch .same
+    module _ (n : T (wall (p .f) x y)) where
+      pub not-letter : p .k ≤ l → false ≡ validFor p sa sc e
+      not-letter o = sym (ok-no-letter (p .corner) (p .k) (p .f) sa sc e (ch .form .ahead) i x y l h q n o) ∙ ch .same
 
-      pub not-right : x < getD sa l 0 → false ≡ isEdge corner k f sa sc ex ey e
-      not-right o = sym (ok-left corner k f sa sc e (ch .form .ahead) i x y l h q n o) ∙ ch .same
+      pub not-right : x < getD sa l 0 → false ≡ validFor p sa sc e
+      not-right o = sym (ok-left (p .corner) (p .k) (p .f) sa sc e (ch .form .ahead) i x y l h q n o) ∙ ch .same
 
-      pub not-up : getD sa l 0 ≤ x → y < getD sc l 0 → false ≡ isEdge corner k f sa sc ex ey e
-      not-up a o = sym (ok-under corner k f sa sc e (ch .form .ahead) i x y l h q n a o) ∙ ch .same
+      pub not-up : getD sa l 0 ≤ x → y < getD sc l 0 → false ≡ validFor p sa sc e
+      not-up a o = sym (ok-under (p .corner) (p .k) (p .f) sa sc e (ch .form .ahead) i x y l h q n a o) ∙ ch .same
 
-      pub checking-more : l < k → getD sa l 0 ≤ x → getD sc l 0 ≤ y → Checking corner k f sa sc top ex ey e (x - getD sa l 0) (y - getD sc l 0) (i - 1)
+      pub checking-more : l < p .k → getD sa l 0 ≤ x → getD sc l 0 ≤ y → Checking p sa sc e (x - getD sa l 0) (y - getD sc l 0) (i - 1)
       checking-more b a c = record {
         form = ch .form;
         x-le = omega (arith, ch .x-le);
         y-le = omega (arith, ch .y-le);
         i-le = omega (arith, ch .i-le);
-        same = sym (ok-step corner k f sa sc e (ch .form .ahead) i x y l h q n b a c) ∙ ch .same;
+        same = sym (ok-step (p .corner) (p .k) (p .f) sa sc e (ch .form .ahead) i x y l h q n b a c) ∙ ch .same;
       }
 
   pub ends-fit : x + y ≤ 97 + 96
   ends-fit = omega (arith, ch .x-le, ch .y-le, ch .form .ex-le, ch .form .ey-le)
 
-  pub is-valid : i ≤ 0 → eqb (x + y) 0 ≡ isEdge corner k f sa sc ex ey e
-  is-valid h = ok-end corner k f sa sc e i x y h ∙ ch .same
+  pub is-valid : i ≤ 0 → eqb (x + y) 0 ≡ validFor p sa sc e
+  is-valid h = ok-end (p .corner) (p .k) (p .f) sa sc e i x y h ∙ ch .same

@@ -11,54 +11,56 @@ use mathlib.Core.List.{List}
 use Prim.Native.Nat.{ℕ, _+_, _-_, _*_, _≤_, _<_}
 use native.Mathlib.Omega.{arith}
 use lib.ListN.{getD}
-use Rattle.grid.specs.Cells.{strideOf, place, Run, Column}
-use Rattle.grid.specs.Table.{From, To, Table}
+use Rattle.grid.specs.declared.plan.Plan.{Plan}
+use Rattle.grid.specs.Cells.{place, Run, Column}
+use Rattle.grid.specs.Table.{From, To}
+use Rattle.grid.specs.Plans.{strideFor, TableFor}
 use Rattle.grid.specs.Filling.{Before, After}
 use Rattle.grid.proofs.Laws.{mul-bound}
 use Rattle.grid.proofs.Columns.{run-of, column-table, most-small, empty-table, empty-small, pow-small-4, pow-small-8}
 
-module _ {few : Bool} {k f : ℕ} {sa sc off : List ℕ} {hi m ex ey : ℕ} {val : List ℕ} {x : ℕ} (b : Before few k f sa sc off hi m ex ey val x) where
-  pub wide-enough : (x + 1) * strideOf m ey ≤ 98 * 2001
-  wide-enough = mul-bound (x + 1) (strideOf m ey) 98 2001 (omega (arith, b .end, b .ready .sizes .ex-le)) (omega (arith, b .ready .sizes .m-le, b .ready .sizes .ey-le))
+module _ {p : Plan} {sa sc off : List ℕ} {val : List ℕ} {x : ℕ} (b : Before p sa sc off val x) where
+  pub wide-enough : (x + 1) * strideFor p ≤ 98 * 2001
+  wide-enough = mul-bound (x + 1) (strideFor p) 98 2001 (omega (arith, b .end, b .ready .sizes .ex-le)) (omega (arith, b .ready .sizes .m-le, b .ready .sizes .ey-le))
 
-  none-gone : (i : ℕ) → 8 ≤ i → i < 8 → ex < getD sa i 0
+  none-gone : (i : ℕ) → 8 ≤ i → i < 8 → p .ex < getD sa i 0
   none-gone i p q = absurd (omega arith)
 
-  module _ {from to : ℕ} (fr : From f hi ex ey x from) (up : To f hi ey x to) where
-    pub step-empty : to ≤ from → After k f sa sc hi m ex ey val x true
+  module _ {from to : ℕ} (fr : From (p .f) (p .hi) (p .ex) (p .ey) x from) (up : To (p .f) (p .hi) (p .ey) x to) where
+    pub step-empty : to ≤ from → After p sa sc val x true
     step-empty l = record {
       table = empty-table (b .ready .slopes) (b .ready .offs) val (b .table) (b .start) (b .end) from to fr up l;
       small = λ _. empty-small (b .ready .slopes) (b .ready .offs) val (b .table) (b .start) (b .end) from to fr up l (b .small);
     }
 
     module _ (lt : from < to) where
-      pub run8 : Run 8 val sa off x (place m ey x from) (to - from)
+      pub run8 : Run 8 val sa off x (place (p .m) (p .ey) x from) (to - from)
       run8 = run-of (b .ready .slopes) (b .ready .offs) val (b .table) (b .start) (b .end) 8 (omega arith) (omega arith) none-gone from to fr up lt (b .ready .room) (b .small)
 
-      pub run4 : few ≡ true → Run 4 val sa off x (place m ey x from) (to - from)
+      pub run4 : p .few ≡ true → Run 4 val sa off x (place (p .m) (p .ey) x from) (to - from)
       run4 e = run-of (b .ready .slopes) (b .ready .offs) val (b .table) (b .start) (b .end) 4 (omega arith) (omega arith) (b .ready .fewer .gone e) from to fr up lt (b .ready .room) (b .small)
 
-      module _ {val′ : List ℕ} (co : Column 8 val val′ sa off x (place m ey x from) (to - from)) where
-        table8 : Table k f sa sc hi m ex ey val′ (x + 1)
+      module _ {val′ : List ℕ} (co : Column 8 val val′ sa off x (place (p .m) (p .ey) x from) (to - from)) where
+        table8 : TableFor p sa sc val′ (x + 1)
         table8 = column-table (b .ready .slopes) (b .ready .offs) val (b .table) (b .start) (b .end) from to fr up 8 (omega arith) (omega arith) none-gone lt val′ co
 
-        pub pow8 : x ≤ 20 → After k f sa sc hi m ex ey val′ x true
+        pub pow8 : x ≤ 20 → After p sa sc val′ x true
         pow8 l = record { table = table8; small = λ _. pow-small-8 (b .ready .slopes) (b .ready .offs) val (b .table) (b .start) (b .end) l (b .small) }
 
-        pub seen8 : (r : Bool) → (r ≡ true → (i : ℕ) → i < to - from → getD val′ (place m ey x from + i) 0 ≤ 2305843009213693951) → After k f sa sc hi m ex ey val′ x r
+        pub seen8 : (r : Bool) → (r ≡ true → (i : ℕ) → i < to - from → getD val′ (place (p .m) (p .ey) x from + i) 0 ≤ 2305843009213693951) → After p sa sc val′ x r
         seen8 r all = record {
           table = table8;
           small = λ e. most-small (b .ready .slopes) (b .ready .offs) val (b .table) (b .start) (b .end) from to fr up 8 (omega arith) (omega arith) none-gone lt val′ co 2305843009213693951 (b .small) (all e) (omega arith);
         }
 
-      module _ (e : few ≡ true) {val′ : List ℕ} (co : Column 4 val val′ sa off x (place m ey x from) (to - from)) where
-        table4 : Table k f sa sc hi m ex ey val′ (x + 1)
+      module _ (e : p .few ≡ true) {val′ : List ℕ} (co : Column 4 val val′ sa off x (place (p .m) (p .ey) x from) (to - from)) where
+        table4 : TableFor p sa sc val′ (x + 1)
         table4 = column-table (b .ready .slopes) (b .ready .offs) val (b .table) (b .start) (b .end) from to fr up 4 (omega arith) (omega arith) (b .ready .fewer .gone e) lt val′ co
 
-        pub pow4 : x ≤ 30 → After k f sa sc hi m ex ey val′ x true
+        pub pow4 : x ≤ 30 → After p sa sc val′ x true
         pow4 l = record { table = table4; small = λ _. pow-small-4 (b .ready .slopes) (b .ready .offs) val (b .table) (b .start) (b .end) (b .ready .fewer .gone e) l (b .small) }
 
-        pub seen4 : (r : Bool) → (r ≡ true → (i : ℕ) → i < to - from → getD val′ (place m ey x from + i) 0 ≤ 2305843009213693951) → After k f sa sc hi m ex ey val′ x r
+        pub seen4 : (r : Bool) → (r ≡ true → (i : ℕ) → i < to - from → getD val′ (place (p .m) (p .ey) x from + i) 0 ≤ 2305843009213693951) → After p sa sc val′ x r
         seen4 r all = record {
           table = table4;
           small = λ q. most-small (b .ready .slopes) (b .ready .offs) val (b .table) (b .start) (b .end) from to fr up 4 (omega arith) (omega arith) (b .ready .fewer .gone e) lt val′ co 2305843009213693951 (b .small) (all q) (omega arith);

@@ -1,12 +1,12 @@
 pub mod Form
 pub mod Cells
 pub mod Table
-pub mod Filling
 pub mod Edges
 pub mod Heights
 pub mod Shapes
 pub mod Calls
 pub mod Numbering
 pub mod Spelling
-pub mod Rows
 pub mod Plans
+pub mod Filling
+pub mod Rows

@@ -5,7 +5,8 @@
 --   FormFor p sa sc                   the steps sa, sc with the plan's end are a form
 --   Planned sa sc p                   the steps sa, sc have the form, the steepest and the deepest step that the plan p says, and are few if it says so
 --   PlanOf s p                        the plan p is the shape s's
---   ..For p                           Prepared, and what else is said of a table while it is filled and read, by a plan
+--   PreparedFor, TableFor, FlaggedFor, SmallFor    Prepared, Table, Flagged and Small by a plan
+--   walksFor p sa sc                  how many walks lead to the end
 --   countFor, numberFor p sa sc e     the count by a plan, and the number of the edge e; validFor, rankFor: whether it is one, and its number if so
 --   edgeFor p sa sc r                 the edge of the number r; ListsFor, BuildsFor: those of the numbers ns written, and those or refusal 4 or 6
 --   countAt, numberAt, BuildsAt s     the same of the shape s
@@ -14,7 +15,6 @@ use mathlib.Core.Path.{_≡_}
 use mathlib.Core.Bool.{Bool}
 use mathlib.Core.List.{List}
 use Prim.Native.Nat.{ℕ, _+_, _*_}
-use lib.Dec.{eqb}
 use lib.ListN.{length}
 use Rattle.rules.specs.Refusals.{Answer}
 use Rattle.rules.specs.Refusals.Answer.{accepted}
@@ -26,12 +26,10 @@ use Rattle.grid.specs.declared.plan.Plan.{Plan}
 use Rattle.grid.specs.declared.shape.Shape.{Shape}
 use Rattle.grid.specs.Form.{Form, W}
 use Rattle.grid.specs.Cells.{capOf, strideOf}
-use Rattle.grid.specs.Table.{Steepest, Deepest, Few, Sizes, Prepared, Flagged}
-use Rattle.grid.specs.Filling.{Begun, Before, After, Got, Resumed, Turn, Slow, Filled}
-use Rattle.grid.specs.Rows.{Cornered, Rowing, Rowed, Risen}
-use Rattle.grid.specs.Edges.{isEdge, numberOf, edgeOf, Ranking, Spelling}
+use Rattle.grid.specs.Table.{Steepest, Deepest, Few, Sizes, Prepared, Table, Flagged, Small}
+use Rattle.grid.specs.Edges.{isEdge, numberOf, edgeOf}
 use Rattle.grid.specs.Numbering.{tableNumber}
-use Rattle.grid.specs.Spelling.{Spells, edgesBy, edgesFor}
+use Rattle.grid.specs.Spelling.{edgesBy, edgesFor}
 
 abbrev pub strideFor : Plan → ℕ
 strideFor p = strideOf (p .m) (p .ey)
@@ -62,56 +60,20 @@ pub record PlanOf (s : Shape) (p : Plan) : Type 0 where
 abbrev pub PreparedFor : Plan → List ℕ → List ℕ → List ℕ → ℕ → Type 0
 PreparedFor p sa sc off size = Prepared (p .few) (p .k) (p .f) sa sc off (p .hi) (p .m) (p .ex) (p .ey) size
 
-abbrev pub BegunFor : Plan → List ℕ → List ℕ → List ℕ → List ℕ → Type 0
-BegunFor p sa sc off val = Begun (p .few) (p .k) (p .f) sa sc off (p .hi) (p .m) (p .ex) (p .ey) val
+abbrev pub TableFor : Plan → List ℕ → List ℕ → List ℕ → ℕ → Type 0
+TableFor p sa sc val x = Table (p .k) (p .f) sa sc (p .hi) (p .m) (p .ex) (p .ey) val x
 
-abbrev pub BeforeFor : Plan → List ℕ → List ℕ → List ℕ → List ℕ → ℕ → Type 0
-BeforeFor p sa sc off val x = Before (p .few) (p .k) (p .f) sa sc off (p .hi) (p .m) (p .ex) (p .ey) val x
-
-abbrev pub AfterFor : Plan → List ℕ → List ℕ → List ℕ → ℕ → Bool → Type 0
-AfterFor p sa sc val x r = After (p .k) (p .f) sa sc (p .hi) (p .m) (p .ex) (p .ey) val x r
-
-abbrev pub GotFor : Plan → List ℕ → List ℕ → List ℕ → ℕ → Type 0
-GotFor p sa sc val r = Got (p .k) (p .f) sa sc (p .hi) (p .m) (p .ex) (p .ey) val r
-
-abbrev pub ResumedFor : Plan → List ℕ → List ℕ → List ℕ → List ℕ → ℕ → Type 0
-ResumedFor p sa sc off val x = Resumed (p .few) (p .k) (p .f) sa sc off (p .hi) (p .m) (p .ex) (p .ey) val x
-
-abbrev pub TurnFor : Plan → List ℕ → List ℕ → List ℕ → List ℕ → List ℕ → ℕ → Type 0
-TurnFor p sa sc off val ov x = Turn (p .few) (p .k) (p .f) sa sc off (p .hi) (p .m) (p .ex) (p .ey) val ov x
-
-abbrev pub SlowFor : Plan → List ℕ → List ℕ → List ℕ → List ℕ → List ℕ → ℕ → ℕ → ℕ → Type 0
-SlowFor p sa sc off val ov x from to = Slow (p .few) (p .k) (p .f) sa sc off (p .hi) (p .m) (p .ex) (p .ey) val ov x from to
+abbrev pub SmallFor : Plan → List ℕ → List ℕ → ℕ → Type 0
+SmallFor p sa sc x = Small (p .k) (p .f) sa sc (p .hi) (p .ex) (p .ey) x
 
 abbrev pub FlaggedFor : Plan → List ℕ → List ℕ → List ℕ → List ℕ → ℕ → Type 0
 FlaggedFor p sa sc val ov x = Flagged (p .k) (p .f) sa sc (p .hi) (p .m) (p .ex) (p .ey) val ov x
 
-abbrev pub CorneredFor : Plan → List ℕ → List ℕ → Type 0
-CorneredFor p sa sc = Cornered (p .k) (p .f) sa sc (p .hi) (p .m) (p .ex) (p .ey)
-
-abbrev pub RowingFor : Plan → List ℕ → List ℕ → List ℕ → List ℕ → ℕ → Type 0
-RowingFor p sa sc off val y = Rowing (eqb (p .k) 3) (p .few) (p .k) (p .f) sa sc off (p .hi) (p .m) (p .ex) (p .ey) val y
-
-abbrev pub RowedFor : Plan → List ℕ → List ℕ → List ℕ → ℕ → Bool → Type 0
-RowedFor p sa sc val y r = Rowed (p .k) (p .f) sa sc (p .m) (p .ex) (p .ey) val y r
-
-abbrev pub RisenFor : Plan → List ℕ → List ℕ → List ℕ → Bool → Type 0
-RisenFor p sa sc val r = Risen (p .k) (p .f) sa sc (p .hi) (p .m) (p .ex) (p .ey) val r
-
-abbrev pub FilledFor : Plan → List ℕ → List ℕ → List ℕ → counts.Answer → Type 0
-FilledFor p sa sc val r = Filled (p .k) (p .f) sa sc (p .hi) (p .m) (p .ex) (p .ey) val r
-
-abbrev pub RankingFor : Plan → List ℕ → List ℕ → List ℕ → List ℕ → List ℕ → Type 0
-RankingFor p sa sc off val e = Ranking (p .corner) (p .few) (p .k) (p .f) sa sc off (p .hi) (p .m) (p .ex) (p .ey) val e
-
-abbrev pub SpellingFor : Plan → List ℕ → List ℕ → List ℕ → List ℕ → ℕ → Type 0
-SpellingFor p sa sc off val r = Spelling (p .few) (p .k) (p .f) sa sc off (p .hi) (p .m) (p .ex) (p .ey) val r
-
-abbrev pub SpellsFor : Plan → List ℕ → List ℕ → List ℕ → List ℕ → List ℕ → Type 0
-SpellsFor p sa sc off val ns = Spells (p .few) (p .k) (p .f) sa sc off (p .hi) (p .m) (p .ex) (p .ey) val ns
+abbrev pub walksFor : Plan → List ℕ → List ℕ → ℕ
+walksFor p sa sc = W (p .k) (p .f) sa sc (p .ex) (p .ey)
 
 abbrev pub countFor : Plan → List ℕ → List ℕ → counts.Answer
-countFor p sa sc = capOf (W (p .k) (p .f) sa sc (p .ex) (p .ey))
+countFor p sa sc = capOf (walksFor p sa sc)
 
 abbrev pub numberFor : Plan → List ℕ → List ℕ → List ℕ → Answer ℕ
 numberFor p sa sc e = tableNumber (p .corner) (p .k) (p .f) sa sc (p .ex) (p .ey) e

@@ -5,6 +5,7 @@
 --   Corner three    the steps are (1,1) and (1,0), in either order, and (2,1) where three is true
 --   Done y i u v    of row v the cell in column u is filled, when the rows below y are, and i cells of row y
 --   Rows .. y i     the cells that are filled are right, and every other one is 0; row v runs from column v to v + n
+--   RowsFor         the same by a plan
 --   Cornered        such steps, for an end that they can reach
 --   Rowing          what filling row y asks
 --   Rowed           what it leaves: row y too, or, where r is false, a count at the end that needs more than 64 bits
@@ -15,11 +16,12 @@ use mathlib.Core.Bool.{Bool, true, false}
 use mathlib.Core.List.{List}
 use Prim.Native.Nat.{ℕ, _+_, _-_, _^_, _≤_, _<_}
 use lib.Dec.{eqb}
-use lib.ListN.{getD}
+use lib.ListN.{length, getD}
 use Rattle.howmany.specs.Choose.{pick}
 use Rattle.grid.specs.Form.{W}
 use Rattle.grid.specs.Cells.{place}
-use Rattle.grid.specs.Table.{Ready}
+use Rattle.grid.specs.declared.plan.Plan.{Plan}
+use Rattle.grid.specs.Plans.{PreparedFor, walksFor}
 use Rattle.grid.specs.Filling.{Got}
 
 abbrev pub Rises : ℕ → ℕ → Type 0
@@ -40,25 +42,25 @@ pub record Rows (k f : ℕ) (sa sc : List ℕ) (m ey n : ℕ) (val : List ℕ) (
   pub right : (u v : ℕ) → Done y i u v → v ≤ u → u ≤ v + n → getD val (place m ey u v) 0 ≡ W k f sa sc u v
   pub other : (j : ℕ) → ((u v : ℕ) → Done y i u v → v ≤ u → u ≤ v + n → j ≡ place m ey u v → ⊥) → getD val j 0 ≡ 0
 
-pub record Cornered (k f : ℕ) (sa sc : List ℕ) (hi m ex ey : ℕ) : Type 0 where
-  pub corner : Corner (eqb k 3) k f sa sc
-  pub slope : hi ≡ 6
-  pub deep : m ≡ 1
-  pub wide : ey ≤ ex
+pub record Cornered (p : Plan) (sa sc : List ℕ) : Type 0 where
+  pub corner : Corner (eqb (p .k) 3) (p .k) (p .f) sa sc
+  pub slope : p .hi ≡ 6
+  pub deep : p .m ≡ 1
+  pub wide : p .ey ≤ p .ex
 
-pub record Rowing (three few : Bool) (k f : ℕ) (sa sc off : List ℕ) (hi m ex ey : ℕ) (val : List ℕ) (y : ℕ) : Type 0 where
-  pub ready : Ready few k f sa sc off hi m ex ey val
-  pub corner : Corner three k f sa sc
-  pub slope : hi ≡ 6
-  pub deep : m ≡ 1
-  pub wide : ey ≤ ex
-  pub rows : Rows k f sa sc m ey (ex - ey) val y 0
-  pub inside : y ≤ ey
+abbrev pub RowsFor : Plan → List ℕ → List ℕ → List ℕ → ℕ → ℕ → Type 0
+RowsFor p sa sc val y i = Rows (p .k) (p .f) sa sc (p .m) (p .ey) (p .ex - p .ey) val y i
 
-pub record Rowed (k f : ℕ) (sa sc : List ℕ) (m ex ey : ℕ) (val : List ℕ) (y : ℕ) (r : Bool) : Type 0 where
-  pub rows : r ≡ true → Rows k f sa sc m ey (ex - ey) val (y + 1) 0
-  pub over : r ≡ false → 2 ^ 64 ≤ W k f sa sc ex ey
+pub record Rowing (p : Plan) (sa sc off val : List ℕ) (y : ℕ) : Type 0 where
+  pub ready : PreparedFor p sa sc off (length val)
+  pub steps : Cornered p sa sc
+  pub rows : RowsFor p sa sc val y 0
+  pub inside : y ≤ p .ey
 
-pub record Risen (k f : ℕ) (sa sc : List ℕ) (hi m ex ey : ℕ) (val : List ℕ) (r : Bool) : Type 0 where
-  pub got : r ≡ true → Got k f sa sc hi m ex ey val (ex + 1)
-  pub over : r ≡ false → 2 ^ 64 ≤ W k f sa sc ex ey
+pub record Rowed (p : Plan) (sa sc val : List ℕ) (y : ℕ) (r : Bool) : Type 0 where
+  pub rows : r ≡ true → RowsFor p sa sc val (y + 1) 0
+  pub over : r ≡ false → 2 ^ 64 ≤ walksFor p sa sc
+
+pub record Risen (p : Plan) (sa sc val : List ℕ) (r : Bool) : Type 0 where
+  pub got : r ≡ true → Got p sa sc val (p .ex + 1)
+  pub over : r ≡ false → 2 ^ 64 ≤ walksFor p sa sc

@@ -1,13 +1,12 @@
 -- The edges of a list of numbers by the table.
 --
 --   Front e old new n    the first n of the bytes old are now e, and the others are as they were
---   Spells ..            the table is filled, and all numbers are below the count
 --   edgesBy ..           the edges of the numbers ns
 --   edgesFor ..          that, or refusal 4 or 6
 use mathlib.Core.Path.{_≡_}
-use mathlib.Core.Bool.{Bool, true}
+use mathlib.Core.Bool.{Bool}
 use mathlib.Core.List.{List, _++_, map}
-use Prim.Native.Nat.{ℕ, _^_, _≤_, _<_}
+use Prim.Native.Nat.{ℕ, _≤_}
 use lib.Dec.{leb}
 use lib.ListN.{length, drop}
 use Rattle.rules.specs.Refusals.{Answer, check}
@@ -17,19 +16,11 @@ use Rattle.rules.specs.Answers.{most}
 use Rattle.rules.specs.Questions.{allBelow}
 use Rattle.grid.specs.Form.{W}
 use Rattle.grid.specs.Edges.{edgeOf}
-use Rattle.grid.specs.Table.{Ready}
-use Rattle.grid.specs.Filling.{Solid}
 
 pub record Front (e old new : List ℕ) (n : ℕ) : Type 0 where
   pub shown : new ≡ e ++ drop n old
   pub long : n ≡ length e
   pub short : n ≤ 128
-
-pub record Spells (few : Bool) (k f : ℕ) (sa sc off : List ℕ) (hi m ex ey : ℕ) (val ns : List ℕ) : Type 0 where
-  pub ready : Ready few k f sa sc off hi m ex ey val
-  pub solid : Solid k f sa sc hi m ex ey val
-  pub fits : W k f sa sc ex ey < 2 ^ 64
-  pub below : allBelow (W k f sa sc ex ey) ns ≡ true
 
 abbrev pub edgesBy : Bool → ℕ → ℕ → List ℕ → List ℕ → ℕ → ℕ → List ℕ → List (List ℕ)
 edgesBy corner k f sa sc ex ey ns = map (edgeOf corner k f sa sc ex ey) ns

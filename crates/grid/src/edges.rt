@@ -1,12 +1,14 @@
 // Edges of the grid from their end backwards: validity, the number of an edge, and the edge of a number.
 ghost use mathlib.Core.Path.{_≡_};
+ghost use mathlib.Core.Bool.{true};
 ghost use Prim.Native.Nat.{_≤_, _<_};
 ghost use lib.ListN.{length, drop};
 ghost use Rattle.howmany.specs.Sum.{sum};
 ghost use Rattle.grid.specs.Form.{via};
 ghost use Rattle.letters.specs.Letters.{glyphOf};
 ghost use Rattle.grid.specs.Edges.{Reads, Sought};
-ghost use Rattle.grid.specs.Plans.{FormFor, RankingFor, SpellingFor, validFor, rankFor, edgeFor};
+ghost use Rattle.grid.specs.Plans.{FormFor, walksFor, validFor, rankFor, edgeFor};
+ghost use Rattle.grid.specs.Filling.{Full};
 use crate::column::source;
 use crate::cone::stays;
 use crate::plan::Plan;
@@ -59,7 +61,7 @@ pub(crate) fn valid(e: &[u8], sa: &[usize; 8], sc: &[usize; 8], p: Plan) -> bool
     x + y == 0
 }
 
-// What the first l steps bring to cell p, column x, height y.
+// What the first l steps bring to the cell at `at`, column x, height y.
 fn part_sum(
     val: &[u64],
     sa: &[usize; 8],
@@ -69,17 +71,17 @@ fn part_sum(
     f: usize,
     x: usize,
     y: usize,
-    p: usize,
+    at: usize,
     l: usize,
 ) -> u64
     requires { ⌜ l ≤ k ⌝ }
-    requires { ⌜ Reads k f (now sa) (now sc) (now off) (now val) x y p ⌝ }
+    requires { ⌜ Reads k f (now sa) (now sc) (now off) (now val) x y at ⌝ }
     ensures { λ r. ⌜ r ≡ sum (via k f (now (sa .entry)) (now (sc .entry)) x y) l ⌝ }
 {
     let mut acc: u64 = 0;
     let mut i = 0;
     while i < l {
-        let s = source(sa, off, i, x, p);
+        let s = source(sa, off, i, x, at);
         acc += val[s];
         i += 1;
     }
@@ -95,7 +97,7 @@ pub(crate) fn rank(
     p: Plan,
     e: &[u8],
 ) -> u64
-    requires { ⌜ RankingFor p (now sa) (now sc) (now off) (now val) (now e) ⌝ }
+    requires { ⌜ Full p (now sa) (now sc) (now off) (now val) × (validFor p (now sa) (now sc) (now e) ≡ true) ⌝ }
     ensures { λ r. ⌜ r ≡ rankFor p (now (sa .entry)) (now (sc .entry)) (now (e .entry)) ⌝ }
 {
     let mut acc: u64 = 0;
@@ -131,17 +133,17 @@ fn seek(
     f: usize,
     x: usize,
     y: usize,
-    p: usize,
+    at: usize,
     r: u64,
 ) -> Pick
-    requires { ⌜ Reads k f (now sa) (now sc) (now off) (now val) x y p ⌝ }
+    requires { ⌜ Reads k f (now sa) (now sc) (now off) (now val) x y at ⌝ }
     requires { ⌜ r < sum (via k f (now sa) (now sc) x y) k ⌝ }
     ensures { λ q. ⌜ Sought (via k f (now (sa .entry)) (now (sc .entry)) x y) k r (q .letter) (q .rest) ⌝ }
 {
     let mut left = r;
     let mut i = 0;
     while i < k {
-        let s = source(sa, off, i, x, p);
+        let s = source(sa, off, i, x, at);
         let v = val[s];
         if left < v {
             return Pick {
@@ -165,7 +167,7 @@ pub(crate) fn spell(
     r: u64,
     buf: &mut [u8],
 ) -> usize
-    requires { ⌜ SpellingFor p (now sa) (now sc) (now off) (now val) r × (length (now buf) ≡ 128) ⌝ }
+    requires { ⌜ Full p (now sa) (now sc) (now off) (now val) × (r < walksFor p (now sa) (now sc)) × (length (now buf) ≡ 128) ⌝ }
     ensures { λ s. ⌜ (s ≤ 128) × (drop s (now (buf .exit)) ≡ edgeFor p (now (sa .entry)) (now (sc .entry)) r) ⌝ }
 {
     let mut x = p.ex;

@@ -2,7 +2,8 @@
 ghost use mathlib.Core.Path.{_≡_};
 ghost use Rattle.job.specs.Replies.{reply, numberSays};
 ghost use Rattle.grid.specs.Shapes.{FormOf};
-ghost use Rattle.grid.specs.Plans.{FormFor, PreparedFor, BegunFor, numberFor, numberAt};
+ghost use Rattle.grid.specs.Plans.{FormFor, PreparedFor, numberFor, numberAt};
+ghost use Rattle.grid.specs.Filling.{Begun};
 use crate::Answer;
 use crate::edges::rank;
 use crate::edges::valid;
@@ -23,7 +24,7 @@ fn number_in(
     p: Plan,
     edge: &[u8],
 ) -> Numbered
-    requires { ⌜ BegunFor p (now sa) (now sc) (now off) (now val) × FormFor p (now sa) (now sc) ⌝ }
+    requires { ⌜ Begun p (now sa) (now sc) (now off) (now val) × FormFor p (now sa) (now sc) ⌝ }
     ensures { λ r. ⌜ numberSays r ≡ reply (numberFor p (now (sa .entry)) (now (sc .entry)) (now (edge .entry))) ⌝ }
 {
     if let Answer::Over = fill(val, sa, sc, off, p) {

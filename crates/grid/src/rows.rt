@@ -2,12 +2,12 @@
 // the row below brings. No count before the end is above the end's, so the first that needs more than 64 bits ends the work.
 ghost use mathlib.Core.Path.{_≡_};
 ghost use mathlib.Core.Bool.{true};
-ghost use Prim.Native.Nat.{_+_, _-_, _<_, _≤_};
+ghost use Prim.Native.Nat.{_-_, _<_};
 ghost use lib.Dec.{eqb};
 ghost use lib.ListN.{length, getD};
 ghost use Rattle.howmany.specs.Choose.{pick};
-ghost use Rattle.grid.specs.Rows.{Rises};
-ghost use Rattle.grid.specs.Plans.{BegunFor, FilledFor, CorneredFor, RowingFor, RowedFor, RisenFor};
+ghost use Rattle.grid.specs.Filling.{Begun, Filled};
+ghost use Rattle.grid.specs.Rows.{Rises, Cornered, Rowing, Rowed, Risen};
 use crate::Answer;
 use crate::plan::Plan;
 
@@ -26,7 +26,7 @@ fn rises(a: usize, b: usize) -> bool
 
 // Whether the steps are those of families 1 and 3, and the end can be reached by them.
 pub(crate) fn is_corner(sa: &[usize; 8], sc: &[usize; 8], p: Plan) -> bool
-    ensures { λ r. ⌜ (r ≡ true → CorneredFor p (now (sa .entry)) (now (sc .entry))) ⌝ }
+    ensures { λ r. ⌜ (r ≡ true → Cornered p (now (sa .entry)) (now (sc .entry))) ⌝ }
 {
     if p.hi != 6 {
         return false;
@@ -61,23 +61,23 @@ pub(crate) fn is_corner(sa: &[usize; 8], sc: &[usize; 8], p: Plan) -> bool
     sc[2] == 1
 }
 
-// The first cell of row y, which is at p: the one before it on the diagonal.
-fn first(val: &[u64], stride: usize, y: usize, p: usize) -> u64
-    requires { ⌜ (stride < p) × (p - stride - 1 < length (now val)) ⌝ }
-    ensures { λ r. ⌜ r ≡ pick (eqb y 0) 1 (getD (now (val .entry)) (p - stride - 1) 0) ⌝ }
+// The first cell of row y, which stands at `at`: the one before it on the diagonal.
+fn first(val: &[u64], stride: usize, y: usize, at: usize) -> u64
+    requires { ⌜ (stride < at) × (at - stride - 1 < length (now val)) ⌝ }
+    ensures { λ r. ⌜ r ≡ pick (eqb y 0) 1 (getD (now (val .entry)) (at - stride - 1) 0) ⌝ }
 {
     if y == 0 {
         return 1;
     }
-    val[p - stride - 1]
+    val[at - stride - 1]
 }
 
-// What the third step, if it is there, brings to the cell after p.
-fn across(val: &[u64], three: bool, stride: usize, p: usize) -> u64
-    requires { ⌜ (stride < p) × (p - stride - 1 < length (now val)) ⌝ }
-    ensures { λ r. ⌜ r ≡ pick three (getD (now (val .entry)) (p - stride - 1) 0) 0 ⌝ }
+// What the third step, if it is there, brings to the cell after the one at `at`.
+fn across(val: &[u64], three: bool, stride: usize, at: usize) -> u64
+    requires { ⌜ (stride < at) × (at - stride - 1 < length (now val)) ⌝ }
+    ensures { λ r. ⌜ r ≡ pick three (getD (now (val .entry)) (at - stride - 1) 0) 0 ⌝ }
 {
-    if three { val[p - stride - 1] } else { 0 }
+    if three { val[at - stride - 1] } else { 0 }
 }
 
 // Row y, from column y on: whether all its counts fit 64 bits.
@@ -89,8 +89,8 @@ fn row(
     p: Plan,
     y: usize,
 ) -> bool
-    requires { ⌜ RowingFor p (now sa) (now sc) (now off) (now val) y ⌝ }
-    ensures { λ r. ⌜ RowedFor p (now (sa .entry)) (now (sc .entry)) (now (val .exit)) y r ⌝ }
+    requires { ⌜ Rowing p (now sa) (now sc) (now off) (now val) y ⌝ }
+    ensures { λ r. ⌜ Rowed p (now (sa .entry)) (now (sc .entry)) (now (val .exit)) y r ⌝ }
 {
     let stride = p.m + p.ey + 1;
     let n = p.ex - p.ey;
@@ -100,8 +100,7 @@ fn row(
     let mut i = 0;
     while i < n {
         let a = val[at - 1];
-        let three = p.k == 3;
-        let b = across(val, three, stride, at);
+        let b = across(val, p.k == 3, stride, at);
         if 18446744073709551615 - sum < a {
             return false;
         }
@@ -119,8 +118,8 @@ fn row(
 
 // All rows: whether the count at the end fits 64 bits.
 fn all_rows(val: &mut [u64], sa: &[usize; 8], sc: &[usize; 8], off: &[usize; 8], p: Plan) -> bool
-    requires { ⌜ BegunFor p (now sa) (now sc) (now off) (now val) × CorneredFor p (now sa) (now sc) ⌝ }
-    ensures { λ r. ⌜ RisenFor p (now (sa .entry)) (now (sc .entry)) (now (val .exit)) r ⌝ }
+    requires { ⌜ Begun p (now sa) (now sc) (now off) (now val) × Cornered p (now sa) (now sc) ⌝ }
+    ensures { λ r. ⌜ Risen p (now (sa .entry)) (now (sc .entry)) (now (val .exit)) r ⌝ }
 {
     let ey = p.ey;
     let mut y = 0;
@@ -141,8 +140,8 @@ pub(crate) fn fill_rows(
     off: &[usize; 8],
     p: Plan,
 ) -> Answer
-    requires { ⌜ BegunFor p (now sa) (now sc) (now off) (now val) × CorneredFor p (now sa) (now sc) ⌝ }
-    ensures { λ r. ⌜ FilledFor p (now (sa .entry)) (now (sc .entry)) (now (val .exit)) r ⌝ }
+    requires { ⌜ Begun p (now sa) (now sc) (now off) (now val) × Cornered p (now sa) (now sc) ⌝ }
+    ensures { λ r. ⌜ Filled p (now (sa .entry)) (now (sc .entry)) (now (val .exit)) r ⌝ }
 {
     if !all_rows(val, sa, sc, off, p) {
         return Answer::Over;

@@ -1,9 +1,13 @@
 // The edges of a list of numbers: the table is filled once, so that refusal 4 goes before 6, and then each edge is spelt from its end.
-ghost use Prim.Native.Nat.{_≤_};
+ghost use mathlib.Core.Path.{_≡_};
+ghost use mathlib.Core.Bool.{true};
+ghost use Prim.Native.Nat.{_≤_, _<_};
 ghost use lib.ListN.{length};
+ghost use Rattle.rules.specs.Questions.{allBelow};
 ghost use Rattle.grid.specs.Shapes.{FormOf};
 ghost use Rattle.grid.specs.Spelling.{Front};
-ghost use Rattle.grid.specs.Plans.{PreparedFor, BegunFor, SpellingFor, SpellsFor, RoomFor, edgeFor, ListsFor, BuildsFor, BuildsAt};
+ghost use Rattle.grid.specs.Filling.{Begun, Full};
+ghost use Rattle.grid.specs.Plans.{PreparedFor, walksFor, RoomFor, edgeFor, ListsFor, BuildsFor, BuildsAt};
 use crate::Answer;
 use crate::edges::spell;
 use crate::plan::Plan;
@@ -24,7 +28,7 @@ fn spell_front(
     r: u64,
     steps: &mut [u8],
 ) -> usize
-    requires { ⌜ SpellingFor p (now sa) (now sc) (now off) (now val) r × (128 ≤ length (now steps)) ⌝ }
+    requires { ⌜ Full p (now sa) (now sc) (now off) (now val) × (r < walksFor p (now sa) (now sc)) × (128 ≤ length (now steps)) ⌝ }
     ensures { λ n. ⌜ Front (edgeFor p (now (sa .entry)) (now (sc .entry)) r) (now (steps .entry)) (now (steps .exit)) n ⌝ }
 {
     let mut buf = [0u8; 128];
@@ -44,7 +48,7 @@ fn spell_all(
     steps: &mut [u8],
     ends: &mut [usize],
 ) -> usize
-    requires { ⌜ SpellsFor p (now sa) (now sc) (now off) (now val) (now numbers) × RoomFor (now numbers) (now steps) (now ends) ⌝ }
+    requires { ⌜ Full p (now sa) (now sc) (now off) (now val) × (allBelow (walksFor p (now sa) (now sc)) (now numbers) ≡ true) × RoomFor (now numbers) (now steps) (now ends) ⌝ }
     ensures { λ at. ⌜ ListsFor p (now (sa .entry)) (now (sc .entry)) (now (numbers .entry)) (now (steps .entry)) (now (ends .entry)) (now (steps .exit)) (now (ends .exit)) at ⌝ }
 {
     let mut at: usize = 0;
@@ -69,7 +73,7 @@ fn spell_in(
     steps: &mut [u8],
     ends: &mut [usize],
 ) -> Built
-    requires { ⌜ BegunFor p (now sa) (now sc) (now off) (now val) × RoomFor (now numbers) (now steps) (now ends) ⌝ }
+    requires { ⌜ Begun p (now sa) (now sc) (now off) (now val) × RoomFor (now numbers) (now steps) (now ends) ⌝ }
     ensures { λ r. ⌜ BuildsFor p (now (sa .entry)) (now (sc .entry)) (now (numbers .entry)) (now (steps .entry)) (now (ends .entry)) (now (steps .exit)) (now (ends .exit)) r ⌝ }
 {
     let Answer::Count(c) = fill(val, sa, sc, off, p) else {

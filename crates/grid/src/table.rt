@@ -1,6 +1,7 @@
 // The table filled column by column: first without tests, and with flags from the first column that could need them.
 ghost use Prim.Native.Nat.{_+_};
-ghost use Rattle.grid.specs.Plans.{BegunFor, BeforeFor, AfterFor, GotFor, ResumedFor, TurnFor, SlowFor, FlaggedFor, FilledFor};
+ghost use Rattle.grid.specs.Plans.{FlaggedFor};
+ghost use Rattle.grid.specs.Filling.{Begun, Before, After, Got, Resumed, Turn, Slow, Filled};
 use crate::Answer;
 use crate::column::column4;
 use crate::column::column8;
@@ -23,8 +24,8 @@ fn step(
     p: Plan,
     x: usize,
 ) -> bool
-    requires { ⌜ BeforeFor p (now sa) (now sc) (now off) (now val) x ⌝ }
-    ensures { λ r. ⌜ AfterFor p (now (sa .entry)) (now (sc .entry)) (now (val .exit)) x r ⌝ }
+    requires { ⌜ Before p (now sa) (now sc) (now off) (now val) x ⌝ }
+    ensures { λ r. ⌜ After p (now (sa .entry)) (now (sc .entry)) (now (val .exit)) x r ⌝ }
 {
     let from = from_at(p.f, p.hi, p.ex, p.ey, x);
     let to = to_at(p.f, p.hi, p.ey, x);
@@ -59,7 +60,7 @@ fn slow(
     from: usize,
     to: usize,
 )
-    requires { ⌜ SlowFor p (now sa) (now sc) (now off) (now val) (now ov) x from to ⌝ }
+    requires { ⌜ Slow p (now sa) (now sc) (now off) (now val) (now ov) x from to ⌝ }
     ensures { λ _. ⌜ FlaggedFor p (now (sa .entry)) (now (sc .entry)) (now (val .exit)) (now (ov .exit)) (x + 1) ⌝ }
 {
     let base = (x + 1) * (p.m + p.ey + 1) + p.m;
@@ -81,7 +82,7 @@ fn turn(
     p: Plan,
     x: usize,
 )
-    requires { ⌜ TurnFor p (now sa) (now sc) (now off) (now val) (now ov) x ⌝ }
+    requires { ⌜ Turn p (now sa) (now sc) (now off) (now val) (now ov) x ⌝ }
     ensures { λ _. ⌜ FlaggedFor p (now (sa .entry)) (now (sc .entry)) (now (val .exit)) (now (ov .exit)) (x + 1) ⌝ }
 {
     let from = from_at(p.f, p.hi, p.ex, p.ey, x);
@@ -94,8 +95,8 @@ fn turn(
 
 // The columns that need no test; the answer is the first that is not filled.
 fn fast(val: &mut [u64], sa: &[usize; 8], sc: &[usize; 8], off: &[usize; 8], p: Plan) -> usize
-    requires { ⌜ BegunFor p (now sa) (now sc) (now off) (now val) ⌝ }
-    ensures { λ r. ⌜ GotFor p (now (sa .entry)) (now (sc .entry)) (now (val .exit)) r ⌝ }
+    requires { ⌜ Begun p (now sa) (now sc) (now off) (now val) ⌝ }
+    ensures { λ r. ⌜ Got p (now (sa .entry)) (now (sc .entry)) (now (val .exit)) r ⌝ }
 {
     let ex = p.ex;
     val[(p.m + p.ey + 1) + p.m] = 1;
@@ -119,8 +120,8 @@ fn rest(
     p: Plan,
     first: usize,
 ) -> Answer
-    requires { ⌜ ResumedFor p (now sa) (now sc) (now off) (now val) first ⌝ }
-    ensures { λ r. ⌜ FilledFor p (now (sa .entry)) (now (sc .entry)) (now (val .exit)) r ⌝ }
+    requires { ⌜ Resumed p (now sa) (now sc) (now off) (now val) first ⌝ }
+    ensures { λ r. ⌜ Filled p (now (sa .entry)) (now (sc .entry)) (now (val .exit)) r ⌝ }
 {
     let ex = p.ex;
     let mut ov = [0u8; 3712];
@@ -129,7 +130,7 @@ fn rest(
         turn(val, &mut ov, sa, sc, off, p, x);
         x += 1;
     }
-    cell(val, &ov, (p.ex + 1) * (p.m + p.ey + 1) + p.m + p.ey)
+    cell(val, &ov, (ex + 1) * (p.m + p.ey + 1) + p.m + p.ey)
 }
 
 // The whole table column by column; the answer is the count at the end.
@@ -140,8 +141,8 @@ fn fill_columns(
     off: &[usize; 8],
     p: Plan,
 ) -> Answer
-    requires { ⌜ BegunFor p (now sa) (now sc) (now off) (now val) ⌝ }
-    ensures { λ r. ⌜ FilledFor p (now (sa .entry)) (now (sc .entry)) (now (val .exit)) r ⌝ }
+    requires { ⌜ Begun p (now sa) (now sc) (now off) (now val) ⌝ }
+    ensures { λ r. ⌜ Filled p (now (sa .entry)) (now (sc .entry)) (now (val .exit)) r ⌝ }
 {
     let next = fast(val, sa, sc, off, p);
     if next <= p.ex {
@@ -160,8 +161,8 @@ pub(crate) fn fill(
     off: &[usize; 8],
     p: Plan,
 ) -> Answer
-    requires { ⌜ BegunFor p (now sa) (now sc) (now off) (now val) ⌝ }
-    ensures { λ r. ⌜ FilledFor p (now (sa .entry)) (now (sc .entry)) (now (val .exit)) r ⌝ }
+    requires { ⌜ Begun p (now sa) (now sc) (now off) (now val) ⌝ }
+    ensures { λ r. ⌜ Filled p (now (sa .entry)) (now (sc .entry)) (now (val .exit)) r ⌝ }
 {
     if is_corner(sa, sc, p) {
         return fill_rows(val, sa, sc, off, p);

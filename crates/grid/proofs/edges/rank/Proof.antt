@@ -4,38 +4,38 @@ use Rattle.grid.proofs.edges.rank.Statement.{statement}
 use Rattle.grid.proofs.edges.rank.Tie as tie
 
 abbrev Inv-loop : tie.InvT-loop
-Inv-loop val sa sc off p e acc₀ x₀ y₀ at₀ i₀ acc x y at i = Walking (p .corner) (p .few) (p .k) (p .f) sa sc off (p .hi) (p .m) (p .ex) (p .ey) val e acc x y at i
+Inv-loop val sa sc off p e acc₀ x₀ y₀ at₀ i₀ acc x y at i = Walking p sa sc off val e acc x y at i
 
 abbrev μ-loop : tie.MeasureT-loop
 μ-loop val sa sc off p e acc₀ x₀ y₀ at₀ i₀ acc x y at i = i
 
 add-at : tie.Need-add-at Inv-loop μ-loop
 add-at c =
-    record { fits = end-placed (c .before .before .before .pre .ready .sizes) .next }
+    record { fits = end-placed (c .before .before .before .pre .0 .ready .sizes) .next }
 
 add-at-2 : tie.Need-add-at-2 Inv-loop μ-loop
 add-at-2 c =
-    record { fits = end-placed (c .before .before .before .before .pre .ready .sizes) .tall }
+    record { fits = end-placed (c .before .before .before .before .pre .0 .ready .sizes) .tall }
 
 add-at-3 : tie.Need-add-at-3 Inv-loop μ-loop
 add-at-3 c =
-    record { fits = end-placed (c .before .before .before .before .pre .ready .sizes) .stride }
+    record { fits = end-placed (c .before .before .before .before .pre .0 .ready .sizes) .stride }
 
 mul-at : tie.Need-mul-at Inv-loop μ-loop
 mul-at c =
-    record { fits = end-placed (c .before .before .before .before .pre .ready .sizes) .column }
+    record { fits = end-placed (c .before .before .before .before .pre .0 .ready .sizes) .column }
 
 add-at-4 : tie.Need-add-at-4 Inv-loop μ-loop
 add-at-4 c =
-    record { fits = end-placed (c .before .before .before .before .before .pre .ready .sizes) .base }
+    record { fits = end-placed (c .before .before .before .before .before .pre .0 .ready .sizes) .base }
 
 add-at-5 : tie.Need-add-at-5 Inv-loop μ-loop
 add-at-5 c =
-    record { fits = end-placed (c .before .before .before .before .before .before .pre .ready .sizes) .cell }
+    record { fits = end-placed (c .before .before .before .before .before .before .pre .0 .ready .sizes) .cell }
 
 loop-holds : tie.Need-loop-holds Inv-loop μ-loop
 loop-holds c =
-    walking-start (c .before .before .before .before .before .before .pre) _ (place-sum _ _ _ _)
+    walking-start (c .before .before .before .before .before .before .pre .0) (c .before .before .before .before .before .before .pre .1) _ (place-sum _ _ _ _)
 
 sub-i : tie.Need-sub-i Inv-loop μ-loop
 sub-i c =

@@ -7,7 +7,7 @@ use Rattle.grid.proofs.edges.spell.Tie as tie
 
 abbrev Inv-loop : tie.InvT-loop
 Inv-loop val sa sc off p r buf₀ x₀ y₀ at₀ left₀ s₀ buf x y at left s =
-    (length buf ≡ length buf₀) × Writing (p .corner) (p .few) (p .k) (p .f) sa sc off (p .hi) (p .m) (p .ex) (p .ey) val r buf₀ buf x y at left s
+    (length buf ≡ length buf₀) × Writing p sa sc off val r buf₀ buf x y at left s
 
 abbrev μ-loop : tie.MeasureT-loop
 μ-loop val sa sc off p r buf₀ x₀ y₀ at₀ left₀ s₀ buf x y at left s = x
@@ -38,7 +38,7 @@ add-at-5 c =
 
 loop-holds : tie.Need-loop-holds Inv-loop μ-loop
 loop-holds c =
-    (refl, writing-start (c .before .before .before .before .before .before .pre .0) (c .before .before .before .before .before .before .pre .1) _ (place-sum _ _ _ _))
+    (refl, writing-start (c .before .before .before .before .before .before .pre .0) (c .before .before .before .before .before .before .pre .1) (c .before .before .before .before .before .before .pre .2) _ (place-sum _ _ _ _))
 
 seek-requires : tie.Need-seek-requires Inv-loop μ-loop
 seek-requires c κs =

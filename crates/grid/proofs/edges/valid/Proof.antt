@@ -8,7 +8,7 @@ use Rattle.grid.proofs.edges.valid.Statement.{statement}
 use Rattle.grid.proofs.edges.valid.Tie as tie
 
 abbrev Inv-loop : tie.InvT-loop
-Inv-loop e sa sc p x₀ y₀ i₀ x y i = Checking (p .corner) (p .k) (p .f) sa sc (p .top) (p .ex) (p .ey) e x y i
+Inv-loop e sa sc p x₀ y₀ i₀ x y i = Checking p sa sc e x y i
 
 abbrev μ-loop : tie.MeasureT-loop
 μ-loop e sa sc p x₀ y₀ i₀ x y i = i

@@ -18,7 +18,7 @@ same-length : tie.Need-same-length
 same-length c = search needs
 
 returns : tie.Need-returns
-returns c = table-over _ _ _ _ _ _ _ _ (cap-over _ (sym (c .before .before .before .before .fill .ensures .answer) ∙ c .enum-told .given .1))
+returns c = table-over (c .before .before .before .before .before .before .before .before .args .p) _ _ _ (cap-over _ (sym (c .before .before .before .before .fill .ensures .answer) ∙ c .enum-told .given .1))
 
 enum-told-2 : tie.Need-enum-told-2
 enum-told-2 c = search needs
@@ -30,16 +30,16 @@ same-length-2 : tie.Need-same-length-2
 same-length-2 c = search needs
 
 returns-2 : tie.Need-returns-2
-returns-2 c = table-not _ _ _ _ _ _ _ _ (cap-count _ _ (sym (c .before .before .before .before .before .before .fill .ensures .answer) ∙ c .before .before .enum-told2 .given .1) .1) (sym (c .before .valid .ensures) ∙ not-true _ (c .if1 .taken))
+returns-2 c = table-not (c .before .before .before .before .before .before .before .before .before .before .args .p) _ _ _ (cap-count _ _ (sym (c .before .before .before .before .before .before .fill .ensures .answer) ∙ c .before .before .enum-told2 .given .1) .1) (sym (c .before .valid .ensures) ∙ not-true _ (c .if1 .taken))
 
 rank-requires : tie.Need-rank-requires
-rank-requires c κs = record { ready = ready-len (c .before .before .before .before .before .before .before .before .before .before .before .pre .0 .ready) (search needs); solid = c .before .before .before .before .before .before .before .fill .ensures .solid (count-over (c .before .before .before .enum-told2 .given .1)); valid = sym (c .before .before .valid .ensures) ∙ not-false _ (c .before .if1 .left); fits = cap-count _ _ (sym (c .before .before .before .before .before .before .before .fill .ensures .answer) ∙ c .before .before .before .enum-told2 .given .1) .1 }
+rank-requires c κs = (record { ready = ready-len (c .before .before .before .before .before .before .before .before .before .before .before .pre .0 .ready) (search needs); solid = c .before .before .before .before .before .before .before .fill .ensures .solid (count-over (c .before .before .before .enum-told2 .given .1)); fits = cap-count _ _ (sym (c .before .before .before .before .before .before .before .fill .ensures .answer) ∙ c .before .before .before .enum-told2 .given .1) .1 }, sym (c .before .before .valid .ensures) ∙ not-false _ (c .before .if1 .left))
 
 same-length-3 : tie.Need-same-length-3
 same-length-3 c = search needs
 
 returns-3 : tie.Need-returns-3
-returns-3 c = table-number _ _ _ _ _ _ _ _ _ (cap-count _ _ (sym (c .before .before .before .before .before .before .before .before .fill .ensures .answer) ∙ c .before .before .before .before .enum-told2 .given .1) .1) (sym (c .before .before .before .valid .ensures) ∙ not-false _ (c .before .before .if1 .left)) (c .rank .ensures)
+returns-3 c = table-number (c .before .before .before .before .before .before .before .before .before .before .before .before .args .p) _ _ _ _ (cap-count _ _ (sym (c .before .before .before .before .before .before .before .before .fill .ensures .answer) ∙ c .before .before .before .before .enum-told2 .given .1) .1) (sym (c .before .before .before .valid .ensures) ∙ not-false _ (c .before .before .if1 .left)) (c .rank .ensures)
 
 pub number-in-spec : {M : Type 1} → statement M
 number-in-spec =

@@ -6,59 +6,43 @@ use borrow.Author.Needs.{needs}
 use borrow.Author.Tests.{not-true, not-false}
 use Rattle.grid.proofs.rows.fill_rows.Statement.{statement}
 use Rattle.grid.proofs.rows.fill_rows.Tie as tie
-use Rattle.grid.proofs.rows.fill_rows.Reads as reads
-use Rattle.grid.proofs.rows.fill_rows.Lts as lts
-use Rattle.grid.proofs.rows.all_rows.Reads as all-rows-reads
 
--- src/rows.rt:179:9
 all-rows-requires : tie.Need-all-rows-requires
 all-rows-requires c κs = search needs
 
--- src/rows.rt:180:9
 same-length : tie.Need-same-length
 same-length c = search needs
 
--- src/rows.rt:180:9
 returns : tie.Need-returns
 returns c = rows-over (c .before .before .before .all-rows .ensures .over (not-true _ (c .if1 .taken)))
 
--- src/rows.rt:182:16
 add-end : tie.Need-add-end
 add-end c = search needs
 
--- src/rows.rt:182:27
 add-end-2 : tie.Need-add-end-2
 add-end-2 c = search needs
 
--- src/rows.rt:182:27
 add-end-3 : tie.Need-add-end-3
 add-end-3 c = search needs
 
--- src/rows.rt:182:15
 mul-end : tie.Need-mul-end
 mul-end c = search needs
 
--- src/rows.rt:182:15
 add-end-4 : tie.Need-add-end-4
 add-end-4 c = search needs
 
--- src/rows.rt:182:15
 add-end-5 : tie.Need-add-end-5
 add-end-5 c = search needs
 
--- src/rows.rt:183:13
 mul-v : tie.Need-mul-v
 mul-v c = search needs
 
--- src/rows.rt:183:13
 slice-read-v : tie.Need-slice-read-v
 slice-read-v c = search needs
 
--- src/rows.rt:163:1
 same-length-2 : tie.Need-same-length-2
 same-length-2 c = search needs
 
--- src/rows.rt:163:1
 returns-2 : tie.Need-returns-2
 returns-2 c = got-filled (c .before .before .before .before .before .before .before .before .all-rows .ensures .got (not-false _ (c .before .before .before .before .before .if1 .left))) refl (λ j. omega (arith, c .before .before .before .before .before .before .slice-known2 .given j)) refl (omega arith)
 

@@ -3,30 +3,22 @@ use borrow.Author.Needs.{needs}
 use borrow.Author.Tests.{eq-eqb, ne-eqb}
 use Rattle.grid.proofs.rows.first.Statement.{statement}
 use Rattle.grid.proofs.rows.first.Tie as tie
-use Rattle.grid.proofs.rows.first.Reads as reads
-use Rattle.grid.proofs.rows.first.Lts as lts
 
--- src/rows.rt:78:9
 returns : tie.Need-returns
 returns c = rw (eq-eqb _ 0 (c .if1 .taken)) refl
 
--- src/rows.rt:80:9
 sub-result : tie.Need-sub-result
 sub-result c = search needs
 
--- src/rows.rt:80:9
 sub-result-2 : tie.Need-sub-result-2
 sub-result-2 c = search needs
 
--- src/rows.rt:80:5
 mul-result : tie.Need-mul-result
 mul-result c = search needs
 
--- src/rows.rt:80:5
 shared-slice-read-result : tie.Need-shared-slice-read-result
 shared-slice-read-result c = search needs
 
--- src/rows.rt:73:1
 returns-2 : tie.Need-returns-2
 returns-2 c = rw (ne-eqb _ 0 (c .before .if1 .left)) refl
 

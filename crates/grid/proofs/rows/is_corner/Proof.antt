@@ -6,89 +6,68 @@ use Rattle.grid.proofs.Along.{two-cornered, three-cornered}
 use borrow.Author.Needs.{needs}
 use Rattle.grid.proofs.rows.is_corner.Statement.{statement}
 use Rattle.grid.proofs.rows.is_corner.Tie as tie
-use Rattle.grid.proofs.rows.is_corner.Reads as reads
-use Rattle.grid.proofs.rows.is_corner.Lts as lts
-use Rattle.grid.proofs.rows.rises.Reads as rises-reads
 
--- src/rows.rt:40:9
 returns : tie.Need-returns
 returns c =
     λ e. absurd (subst T (sym e) tt)
 
--- src/rows.rt:43:9
 returns-2 : tie.Need-returns-2
 returns-2 c =
     λ e. absurd (subst T (sym e) tt)
 
--- src/rows.rt:46:9
 returns-3 : tie.Need-returns-3
 returns-3 c =
     λ e. absurd (subst T (sym e) tt)
 
--- src/rows.rt:49:9
 returns-4 : tie.Need-returns-4
 returns-4 c =
     λ e. absurd (subst T (sym e) tt)
 
--- src/rows.rt:51:8
 element-copy-out-if5 : tie.Need-element-copy-out-if5
 element-copy-out-if5 c = search needs
 
--- src/rows.rt:52:9
 returns-5 : tie.Need-returns-5
 returns-5 c =
     λ e. absurd (subst T (sym e) tt)
 
--- src/rows.rt:54:8
 element-copy-out-if6 : tie.Need-element-copy-out-if6
 element-copy-out-if6 c = search needs
 
--- src/rows.rt:55:9
 returns-6 : tie.Need-returns-6
 returns-6 c =
     λ e. absurd (subst T (sym e) tt)
 
--- src/rows.rt:57:15
 element-copy-out-rises : tie.Need-element-copy-out-rises
 element-copy-out-rises c = search needs
 
--- src/rows.rt:57:22
 element-copy-out-rises-2 : tie.Need-element-copy-out-rises-2
 element-copy-out-rises-2 c = search needs
 
--- src/rows.rt:57:9
 rises-requires : tie.Need-rises-requires
 rises-requires c κs = search needs
 
--- src/rows.rt:58:9
 returns-7 : tie.Need-returns-7
 returns-7 c =
     λ e. absurd (subst T (sym e) tt)
 
--- src/rows.rt:61:9
 returns-8 : tie.Need-returns-8
 returns-8 c =
     λ e. two-cornered (c .before .before .before .before .before .before .before .before .before .before .before .before .before .before .before .before .if1 .left) (c .before .before .before .before .before .before .before .before .before .before .before .before .before .before .if2 .left) (c .before .before .before .before .before .before .before .before .before .before .before .before .if3 .left) (omega (arith, c .before .before .before .before .before .before .before .before .before .before .if4 .left)) (c .before .before .before .before .before .before .before .before .if5 .left) (c .before .before .before .before .before .before .if6 .left) (c .before .before .before .rises .ensures (not-false _ (c .before .before .if7 .left))) (c .if8 .taken)
 
--- src/rows.rt:64:9
 returns-9 : tie.Need-returns-9
 returns-9 c =
     λ e. absurd (subst T (sym e) tt)
 
--- src/rows.rt:66:8
 element-copy-out-if10 : tie.Need-element-copy-out-if10
 element-copy-out-if10 c = search needs
 
--- src/rows.rt:67:9
 returns-10 : tie.Need-returns-10
 returns-10 c =
     λ e. absurd (subst T (sym e) tt)
 
--- src/rows.rt:69:5
 element-copy-out-result : tie.Need-element-copy-out-result
 element-copy-out-result c = search needs
 
--- src/rows.rt:27:1
 returns-11 : tie.Need-returns-11
 returns-11 c =
     λ e. three-cornered (c .before .before .before .before .before .before .before .before .before .before .before .before .before .before .before .before .before .before .before .before .before .if1 .left) (c .before .before .before .before .before .before .before .before .before .before .before .before .before .before .before .before .before .before .before .if2 .left) (c .before .before .before .before .before .before .before .before .before .before .before .before .before .before .before .before .before .if3 .left) (omega (arith, c .before .before .before .before .before .before .before .before .before .before .before .before .before .before .before .if4 .left)) (c .before .before .before .before .before .before .before .before .before .before .before .before .before .if5 .left) (c .before .before .before .before .before .before .before .before .before .before .before .if6 .left) (c .before .before .before .before .before .before .before .before .rises .ensures (not-false _ (c .before .before .before .before .before .before .before .if7 .left))) (c .before .before .before .if9 .left) (c .before .if10 .left) (eqb-true _ 1 e)

@@ -4,18 +4,13 @@ use lib.Dec.{T}
 use borrow.Author.Tests.{eqb-true}
 use Rattle.grid.proofs.rows.rises.Statement.{statement}
 use Rattle.grid.proofs.rows.rises.Tie as tie
-use Rattle.grid.proofs.rows.rises.Reads as reads
-use Rattle.grid.proofs.rows.rises.Lts as lts
 
--- src/rows.rt:18:9
 returns : tie.Need-returns
 returns c = λ e. inl (c .if1 .taken, eqb-true _ 0 e)
 
--- src/rows.rt:21:9
 returns-2 : tie.Need-returns-2
 returns-2 c = λ e. absurd (subst T (sym e) tt)
 
--- src/rows.rt:14:1
 returns-3 : tie.Need-returns-3
 returns-3 c = λ e. inr (c .if2 .left, eqb-true _ 1 e)
 

@@ -1,173 +1,138 @@
 use Prim.Native.Nat.{_-_, _^_, _<_}
 use mathlib.Core.Path.{_≡_, refl, sym, subst}
-use lib.Dec.{T, eqb}
+use lib.Dec.{T}
 use native.Mathlib.Omega.{arith}
 use lib.ListN.{length, length-set}
 use Rattle.grid.proofs.Along.{Along, row-at, row-small, row-far, first-fits, along-start, along-in, along-small, along-far, along-done, next-in, next-small, along-over, along-next}
 use Rattle.grid.proofs.rows.row.Statement.{statement}
 use Rattle.grid.proofs.rows.row.Tie as tie
-use Rattle.grid.proofs.rows.row.Reads as reads
-use Rattle.grid.proofs.rows.row.Lts as lts
-use Rattle.grid.proofs.rows.across.Reads as across-reads
-use Rattle.grid.proofs.rows.first.Reads as first-reads
 
 abbrev Inv-loop : tie.InvT-loop
-Inv-loop val₀ sa sc off p y stride n at₀ sum₀ i₀ val at sum i = (length val ≡ length val₀) × (sum < 2 ^ 64) × Along (eqb (p .k) 3) (p .few) (p .k) (p .f) sa sc off (p .hi) (p .m) (p .ex) (p .ey) y val at sum i
+Inv-loop val₀ sa sc off p y stride n at₀ sum₀ i₀ val at sum i = (length val ≡ length val₀) × (sum < 2 ^ 64) × Along p sa sc off y val at sum i
 
 abbrev μ-loop : tie.MeasureT-loop
 μ-loop val₀ sa sc off p y stride n at₀ sum₀ i₀ val at sum i = n - i
 
--- src/rows.rt:110:18
 add-stride : tie.Need-add-stride Inv-loop μ-loop
 add-stride c =
     omega (arith, c .before .before .pre .ready .sizes .m-le, c .before .before .pre .ready .sizes .ey-le)
 
--- src/rows.rt:110:18
 add-stride-2 : tie.Need-add-stride-2 Inv-loop μ-loop
 add-stride-2 c =
     omega (arith, c .before .before .pre .ready .sizes .m-le, c .before .before .pre .ready .sizes .ey-le)
 
--- src/rows.rt:111:13
 sub-n : tie.Need-sub-n Inv-loop μ-loop
 sub-n c =
-    c .before .before .before .pre .wide
+    c .before .before .before .pre .steps .wide
 
--- src/rows.rt:112:18
 add-at : tie.Need-add-at Inv-loop μ-loop
 add-at c =
     omega (arith, c .before .before .before .pre .inside, c .before .before .before .pre .ready .sizes .ey-le)
 
--- src/rows.rt:112:17
 mul-at : tie.Need-mul-at Inv-loop μ-loop
 mul-at c =
     omega (arith, row-small (c .before .before .before .pre))
 
--- src/rows.rt:112:17
 add-at-2 : tie.Need-add-at-2 Inv-loop μ-loop
 add-at-2 c =
     omega (arith, row-small (c .before .before .before .before .pre))
 
--- src/rows.rt:112:17
 add-at-3 : tie.Need-add-at-3 Inv-loop μ-loop
 add-at-3 c =
     omega (arith, row-small (c .before .before .before .before .pre))
 
--- src/rows.rt:113:9
 first-requires : tie.Need-first-requires Inv-loop μ-loop
 first-requires c κs =
     (omega (arith, row-far (c .before .before .before .before .before .pre)), omega (arith, row-at (c .before .before .before .before .before .pre)))
 
--- src/rows.rt:114:5
 mul-val : tie.Need-mul-val Inv-loop μ-loop
 mul-val c =
     omega (arith, row-small (c .before .before .before .before .before .before .pre))
 
--- src/rows.rt:114:5
 slice-write-val : tie.Need-slice-write-val Inv-loop μ-loop
 slice-write-val c =
     omega (arith, row-at (c .before .before .before .before .before .before .pre))
 
--- src/rows.rt:116:5
 loop-holds : tie.Need-loop-holds Inv-loop μ-loop
 loop-holds c =
     (refl, first-fits (c .before .before .before .before .before .before .pre) (λ j. omega (arith, c .before .before .before .before .before .slice-known .given j)) _ _ (c .first .ensures), along-start (c .before .before .before .before .before .before .pre) _ _ (omega arith) (c .first .ensures))
 
--- src/rows.rt:117:21
 sub-a : tie.Need-sub-a Inv-loop μ-loop
 sub-a c =
     omega (arith, along-far (c .before .loop .inv .2))
 
--- src/rows.rt:117:17
 mul-a : tie.Need-mul-a Inv-loop μ-loop
 mul-a c =
     omega (arith, along-small (c .before .loop .inv .2))
 
--- src/rows.rt:117:17
 slice-read-a : tie.Need-slice-read-a Inv-loop μ-loop
 slice-read-a c =
     omega (arith, along-in (c .before .before .loop .inv .2))
 
--- src/rows.rt:118:13
 across-requires : tie.Need-across-requires Inv-loop μ-loop
 across-requires c κs =
     (omega (arith, along-far (c .before .before .before .before .loop .inv .2)), omega (arith, along-in (c .before .before .before .before .loop .inv .2)))
 
--- src/rows.rt:119:12
 sub-if1 : tie.Need-sub-if1 Inv-loop μ-loop
 sub-if1 c =
     omega (arith, c .before .before .before .before .before .loop .inv .1)
 
--- src/rows.rt:120:13
 same-length : tie.Need-same-length Inv-loop μ-loop
 same-length c =
     simp length-set at (c .before .before .before .before .before .before .loop .inv .0)
 
--- src/rows.rt:120:13
 returns : tie.Need-returns Inv-loop μ-loop
 returns c =
     record { rows = λ e. absurd (subst T (sym e) tt); over = λ e. along-over (c .before .before .before .before .before .before .loop .inv .2) (c .before .before .before .before .before .loop-test .taken) _ _ refl (c .before .across .ensures) (omega (arith, c .if1 .taken)) }
 
--- src/rows.rt:122:9
 add-sum : tie.Need-add-sum Inv-loop μ-loop
 add-sum c =
     omega (arith, c .before .before .before .before .before .before .loop .inv .1, c .if1 .left)
 
--- src/rows.rt:123:12
 sub-if2 : tie.Need-sub-if2 Inv-loop μ-loop
 sub-if2 c =
     omega (arith, c .before .before .before .before .before .before .loop .inv .1, c .if1 .left)
 
--- src/rows.rt:124:13
 same-length-2 : tie.Need-same-length-2 Inv-loop μ-loop
 same-length-2 c =
     simp length-set at (c .before .before .before .before .before .before .before .loop .inv .0)
 
--- src/rows.rt:124:13
 returns-2 : tie.Need-returns-2 Inv-loop μ-loop
 returns-2 c =
     record { rows = λ e. absurd (subst T (sym e) tt); over = λ e. along-over (c .before .before .before .before .before .before .before .loop .inv .2) (c .before .before .before .before .before .before .loop-test .taken) _ _ refl (c .before .before .across .ensures) (omega (arith, c .if2 .taken)) }
 
--- src/rows.rt:126:9
 add-sum-2 : tie.Need-add-sum-2 Inv-loop μ-loop
 add-sum-2 c =
     omega (arith, c .before .before .before .before .before .before .before .loop .inv .1, c .before .if1 .left, c .if2 .left)
 
--- src/rows.rt:127:9
 add-at-4 : tie.Need-add-at-4 Inv-loop μ-loop
 add-at-4 c =
     omega (arith, next-small (c .before .before .before .before .before .before .before .loop .inv .2) (c .before .before .before .before .before .before .loop-test .taken))
 
--- src/rows.rt:128:9
 mul-val-2 : tie.Need-mul-val-2 Inv-loop μ-loop
 mul-val-2 c =
     omega (arith, next-small (c .before .before .before .before .before .before .before .loop .inv .2) (c .before .before .before .before .before .before .loop-test .taken))
 
--- src/rows.rt:128:9
 slice-write-val-2 : tie.Need-slice-write-val-2 Inv-loop μ-loop
 slice-write-val-2 c =
     omega (arith, next-in (c .before .before .before .before .before .before .before .loop .inv .2) (c .before .before .before .before .before .before .loop-test .taken))
 
--- src/rows.rt:129:9
 add-i : tie.Need-add-i Inv-loop μ-loop
 add-i c =
     omega (arith, c .before .before .before .before .before .before .loop-test .taken)
 
--- src/rows.rt:116:5
 loop-less : tie.Need-loop-less Inv-loop μ-loop
 loop-less c =
     omega (arith, c .before .before .before .before .before .before .loop-test .taken)
 
--- src/rows.rt:116:5
 loop-again : tie.Need-loop-again Inv-loop μ-loop
 loop-again c =
     (simp length-set (simp length-set at (c .before .before .before .before .before .before .before .loop .inv .0)), omega (arith, c .before .before .before .before .before .before .before .loop .inv .1, c .before .if1 .left, c .if2 .left), along-next (c .before .before .before .before .before .before .before .loop .inv .2) (c .before .before .before .before .before .before .loop-test .taken) _ _ refl (c .before .before .across .ensures) _ _ (omega arith) (omega arith))
 
--- src/rows.rt:92:1
 same-length-3 : tie.Need-same-length-3 Inv-loop μ-loop
 same-length-3 c =
     simp length-set at (c .before .loop .inv .0)
 
--- src/rows.rt:92:1
 returns-3 : tie.Need-returns-3 Inv-loop μ-loop
 returns-3 c =
     record { rows = λ e. along-done (c .before .loop .inv .2) (omega (arith, c .before .loop .inv .2 .le, c .loop-test .left)); over = λ e. absurd (subst T e tt) }

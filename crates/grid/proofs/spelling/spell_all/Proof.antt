@@ -2,9 +2,11 @@
 use native.Mathlib.Omega.{arith}
 use Prim.Native.Nat.{_-_}
 use lib.ListN.{length}
+use Rattle.howmany.proofs.Choices.{holds}
+use Rattle.rules.proofs.Belows.{below-at}
 use Rattle.lines.proofs.Lining.{Lining, lining-none, lining-room, lining-part, lining-all}
 use Rattle.grid.specs.Plans.{edgeFor}
-use Rattle.grid.proofs.Builds.{spelling-of, front-next}
+use Rattle.grid.proofs.Builds.{front-next}
 use borrow.Author.Needs.{needs}
 use Rattle.grid.proofs.spelling.spell_all.Statement.{statement}
 use Rattle.grid.proofs.spelling.spell_all.Tie as tie
@@ -16,7 +18,7 @@ abbrev μ-loop : tie.MeasureT-loop
 μ-loop val sa sc off p numbers steps₀ ends₀ at₀ i₀ steps ends at i = length numbers - i
 
 loop-holds : tie.Need-loop-holds Inv-loop μ-loop
-loop-holds c = lining-none _ _ _ _ (c .before .before .before .before .pre .1)
+loop-holds c = lining-none _ _ _ _ (c .before .before .before .before .pre .2)
 
 mul-spell-front : tie.Need-mul-spell-front Inv-loop μ-loop
 mul-spell-front c = search needs
@@ -34,7 +36,7 @@ part-spell-front-end : tie.Need-part-spell-front-end Inv-loop μ-loop
 part-spell-front-end c = let h = lining-room _ _ _ _ _ _ _ _ (c .before .before .loop .inv) (c .before .loop-test .taken) in search needs
 
 spell-front-requires : tie.Need-spell-front-requires Inv-loop μ-loop
-spell-front-requires c κs = (spelling-of (c .before .before .before .before .before .before .before .before .args .p .corner) _ _ _ _ _ _ _ _ _ _ _ _ (c .before .before .before .before .before .before .before .before .pre .0) _ (c .before .before .loop-test .taken), lining-part _ _ _ _ _ _ _ _ (c .before .before .before .loop .inv) (c .before .before .loop-test .taken))
+spell-front-requires c κs = (c .before .before .before .before .before .before .before .before .pre .0, below-at _ _ (holds (c .before .before .before .before .before .before .before .before .pre .1)) _ (c .before .before .loop-test .taken), lining-part _ _ _ _ _ _ _ _ (c .before .before .before .loop .inv) (c .before .before .loop-test .taken))
 
 add-at : tie.Need-add-at Inv-loop μ-loop
 add-at c = let h = lining-room _ _ _ _ _ _ _ _ (c .before .before .before .before .before .before .loop .inv) (c .before .before .before .before .before .loop-test .taken) in let w = c .before .before .spell-front .ensures .short in search needs
@@ -43,7 +45,7 @@ mul-ends : tie.Need-mul-ends Inv-loop μ-loop
 mul-ends c = search needs
 
 slice-write-ends : tie.Need-slice-write-ends Inv-loop μ-loop
-slice-write-ends c = omega (arith, c .before .before .before .before .before .before .loop .inv .as-many, c .before .before .before .before .before .before .before .before .before .before .before .pre .1 .for-ends)
+slice-write-ends c = omega (arith, c .before .before .before .before .before .before .loop .inv .as-many, c .before .before .before .before .before .before .before .before .before .before .before .pre .2 .for-ends)
 
 add-i : tie.Need-add-i Inv-loop μ-loop
 add-i c = search needs

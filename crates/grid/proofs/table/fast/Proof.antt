@@ -2,8 +2,7 @@ use mathlib.Core.Path.{_≡_, refl}
 use Prim.Native.Nat.{_+_, _≤_, _-_}
 use native.Mathlib.Omega.{arith}
 use lib.ListN.{length, length-set}
-use Rattle.grid.specs.Table.{Table, Small}
-use Rattle.grid.specs.Plans.{PreparedFor}
+use Rattle.grid.specs.Plans.{PreparedFor, TableFor, SmallFor}
 use Rattle.grid.proofs.Phases.{ready-len, first-in, begin-table, begin-small, begin-ready}
 use borrow.Author.Tests.{not-false}
 use Rattle.grid.proofs.table.fast.Statement.{statement}
@@ -11,7 +10,7 @@ use Rattle.grid.proofs.table.fast.Tie as tie
 
 abbrev Inv-loop : tie.InvT-loop
 Inv-loop val₀ sa sc off p ex x₀ val x =
-    (1 ≤ x) × (x ≤ p .ex + 1) × (length val ≡ length val₀) × PreparedFor p sa sc off (length val) × Table (p .k) (p .f) sa sc (p .hi) (p .m) (p .ex) (p .ey) val x × Small (p .k) (p .f) sa sc (p .hi) (p .ex) (p .ey) x
+    (1 ≤ x) × (x ≤ p .ex + 1) × (length val ≡ length val₀) × PreparedFor p sa sc off (length val) × TableFor p sa sc val x × SmallFor p sa sc x
 
 abbrev μ-loop : tie.MeasureT-loop
 μ-loop val₀ sa sc off p ex x₀ val x = p .ex + 1 - x

@@ -37,31 +37,31 @@ slice-aggregate-cell : tie.Need-slice-aggregate-cell Inv-loop μ-loop
 slice-aggregate-cell c = search needs
 
 add-cell : tie.Need-add-cell Inv-loop μ-loop
-add-cell c = let p = c .before .before .before .before .loop .inv .4 .sizes in let q = end-cells (c .before .before .before .before .loop .inv .4) in omega arith
+add-cell c = let p = c .before .before .before .loop .inv .4 .sizes in let q = end-cells (c .before .before .before .loop .inv .4) in omega arith
 
 add-cell-2 : tie.Need-add-cell-2 Inv-loop μ-loop
-add-cell-2 c = let p = c .before .before .before .before .before .loop .inv .4 .sizes in let q = end-cells (c .before .before .before .before .before .loop .inv .4) in omega arith
+add-cell-2 c = let p = c .before .before .before .before .loop .inv .4 .sizes in let q = end-cells (c .before .before .before .before .loop .inv .4) in omega arith
 
 add-cell-3 : tie.Need-add-cell-3 Inv-loop μ-loop
-add-cell-3 c = let p = c .before .before .before .before .before .loop .inv .4 .sizes in let q = end-cells (c .before .before .before .before .before .loop .inv .4) in omega arith
+add-cell-3 c = let p = c .before .before .before .before .loop .inv .4 .sizes in let q = end-cells (c .before .before .before .before .loop .inv .4) in omega arith
 
 mul-cell : tie.Need-mul-cell Inv-loop μ-loop
-mul-cell c = let p = c .before .before .before .before .before .loop .inv .4 .sizes in let q = end-cells (c .before .before .before .before .before .loop .inv .4) in omega arith
+mul-cell c = let p = c .before .before .before .before .loop .inv .4 .sizes in let q = end-cells (c .before .before .before .before .loop .inv .4) in omega arith
 
 add-cell-4 : tie.Need-add-cell-4 Inv-loop μ-loop
-add-cell-4 c = let p = c .before .before .before .before .before .before .loop .inv .4 .sizes in let q = end-cells (c .before .before .before .before .before .before .loop .inv .4) in omega arith
+add-cell-4 c = let p = c .before .before .before .before .before .loop .inv .4 .sizes in let q = end-cells (c .before .before .before .before .before .loop .inv .4) in omega arith
 
 add-cell-5 : tie.Need-add-cell-5 Inv-loop μ-loop
-add-cell-5 c = let p = c .before .before .before .before .before .before .before .loop .inv .4 .sizes in let q = end-cells (c .before .before .before .before .before .before .before .loop .inv .4) in omega arith
+add-cell-5 c = let p = c .before .before .before .before .before .before .loop .inv .4 .sizes in let q = end-cells (c .before .before .before .before .before .before .loop .inv .4) in omega arith
 
 cell-requires : tie.Need-cell-requires Inv-loop μ-loop
-cell-requires c κs = let q = end-cells (c .before .before .before .before .before .before .before .loop .inv .4) in let r = end-room (c .before .before .before .before .before .before .before .loop .inv .4) in (omega arith, omega arith)
+cell-requires c κs = let q = end-cells (c .before .before .before .before .before .before .loop .inv .4) in let r = end-room (c .before .before .before .before .before .before .loop .inv .4) in (omega arith, omega arith)
 
 same-length : tie.Need-same-length Inv-loop μ-loop
 same-length c = search needs
 
 returns : tie.Need-returns Inv-loop μ-loop
-returns c = flagged-filled (c .before .before .before .before .before .before .before .before .loop .val) (c .before .before .before .before .before .before .before .before .loop .ov) (c .before .before .before .before .before .before .before .before .loop .inv .5) (omega arith) (c .cell .ensures) (omega arith)
+returns c = flagged-filled (c .before .before .before .before .before .before .before .loop .val) (c .before .before .before .before .before .before .before .loop .ov) (c .before .before .before .before .before .before .before .loop .inv .5) (omega arith) (c .cell .ensures) (omega arith)
 
 pub rest-spec : {M : Type 1} → statement M
 rest-spec =

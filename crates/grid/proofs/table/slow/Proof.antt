@@ -2,8 +2,7 @@ use mathlib.Core.Path.{_≡_, refl}
 use Prim.Native.Nat.{_≤_, _-_}
 use native.Mathlib.Omega.{arith}
 use lib.ListN.{length}
-use Rattle.grid.specs.Filling.{Part}
-use Rattle.grid.specs.Plans.{SlowFor}
+use Rattle.grid.specs.Filling.{Slow, Part}
 use Rattle.grid.proofs.Sums.{more-le, fewer-left, all-of}
 use Rattle.grid.proofs.Phases.{place-sum, slow-placed, none-yet, put-in, parts-of, part-more, slow-done}
 use Rattle.grid.proofs.table.slow.Statement.{statement}
@@ -11,7 +10,7 @@ use Rattle.grid.proofs.table.slow.Tie as tie
 
 abbrev Inv-loop : tie.InvT-loop
 Inv-loop val₀ ov₀ sa sc off p x from to base y₀ val ov y =
-    (from ≤ y) × (y ≤ to) × (length val ≡ length val₀) × (length ov ≡ length ov₀) × SlowFor p sa sc off val₀ ov₀ x from to × Part (p .k) (p .f) sa sc (p .m) (p .ey) x from val₀ ov₀ val ov y
+    (from ≤ y) × (y ≤ to) × (length val ≡ length val₀) × (length ov ≡ length ov₀) × Slow p sa sc off val₀ ov₀ x from to × Part p sa sc x from val₀ ov₀ val ov y
 
 abbrev μ-loop : tie.MeasureT-loop
 μ-loop val₀ ov₀ sa sc off p x from to base y₀ val ov y = to - y
