@@ -8,20 +8,25 @@
 --   wall-slid, wall-mirrored a fence in lower heights, and in mirrored ones; wall-free: no wall in either
 --   fence-low, fence-free, roof-free, roof-low, roof-high    what `fence_at` and `roof_at` find
 --   from-fence, from-end, to-reach, to-end                   what `from_at` and `to_at` find
+--   spans-none, spans-more, spans-all    what `spans` has before its loop, after a turn of it, and at its end; span-low, span-high: what it finds of a column
 --   stays-not, stays-by      what `stays` finds
 --   wall-in                  the wall lets a walk be at the heights that matter
 use mathlib.Core.Path.{_≡_, sym, ap, _∙_}
 use mathlib.Core.Bool.{Bool, true, false}
+use mathlib.Core.List.{List}
 use Prim.Native.Nat.{ℕ, _+_, _*_, _-_, _≤_, _<_}
 use native.Mathlib.Decide.{decLe, decLt}
 use native.Mathlib.Nat.{add-mul}
 use native.Mathlib.Omega.{arith}
 use lib.Dec.{T, leb, leb→le}
+use lib.ListN.{length, getD, set}
+use lib.Seq.{getD-set-same, getD-set-other}
+use borrow.Author.Count.{below-more}
 use borrow.Author.Tests.{lt-ltb, le-ltb, le-leb, lt-leb}
 use Rattle.howmany.proofs.Choices.{holds, is-true, is-false}
 use Rattle.grid.specs.Form.{roof, wall}
 use Rattle.grid.specs.Heights.{Turned}
-use Rattle.grid.specs.Table.{Fence, From, Roof, To}
+use Rattle.grid.specs.Table.{Fence, From, Roof, To, Spans}
 
 pub tested : (b : Bool) → Dec (T b)
 tested true = yes tt
@@ -134,3 +139,23 @@ module _ {f hi ey x high reach : ℕ} (w : Roof f x high reach) where
 module _ {f hi ex ey x from to : ℕ} (fr : From f hi ex ey x from) (up : To f hi ey x to) where
   pub wall-in : (y : ℕ) → from ≤ y → y < to → T (wall f x y)
   wall-in y l h = wall-between f x y (λ k. omega (arith, fr .inside k)) (λ k. up .inside k y h)
+
+module _ {f hi ex ey : ℕ} {starts stops : List ℕ} where
+  pub spans-none : Spans f hi ex ey starts stops 1
+  spans-none = record { low = λ x p l. absurd (omega arith); high = λ x p l. absurd (omega arith) }
+
+  pub spans-more : {n from to : ℕ} → Spans f hi ex ey starts stops n → n < length starts → n < length stops → From f hi ex ey n from → To f hi ey n to → Spans f hi ex ey (set starts n from) (set stops n to) (n + 1)
+  spans-more {n} {from} {to} s l m fr up = record {
+    low = λ x p h. below-more (λ j. 1 ≤ j → From f hi ex ey j (getD (set starts n from) j 0)) n (λ j h p. rw (getD-set-other starts n j from 0 (λ q. omega arith)) (s .low j p h)) (λ p. rw (getD-set-same starts n from 0 l) fr) x h p;
+    high = λ x p h. below-more (λ j. 1 ≤ j → To f hi ey j (getD (set stops n to) j 0)) n (λ j h p. rw (getD-set-other stops n j to 0 (λ q. omega arith)) (s .high j p h)) (λ p. rw (getD-set-same stops n to 0 m) up) x h p;
+  }
+
+  pub spans-all : {n : ℕ} → Spans f hi ex ey starts stops n → n ≡ ex + 1 → Spans f hi ex ey starts stops (ex + 1)
+  spans-all s e = rw e at s
+
+  module _ (s : Spans f hi ex ey starts stops (ex + 1)) {x : ℕ} (p : 1 ≤ x) (l : x ≤ ex) where
+    pub span-low : From f hi ex ey x (getD starts x 0)
+    span-low = s .low x p (omega arith)
+
+    pub span-high : To f hi ey x (getD stops x 0)
+    span-high = s .high x p (omega arith)

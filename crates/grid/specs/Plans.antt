@@ -6,6 +6,7 @@
 --   Planned sa sc p                   the steps sa, sc have the form, the steepest and the deepest step that the plan p says, and are few if it says so
 --   PlanOf s p                        the plan p is the shape s's
 --   PreparedFor, TableFor, FlaggedFor, SmallFor    Prepared, Table, Flagged and Small by a plan
+--   SpansFor p starts stops           where the heights that matter of the plan's columns begin, and end
 --   walksFor p sa sc                  how many walks lead to the end
 --   countFor, numberFor p sa sc e     the count by a plan, and the number of the edge e; validFor, rankFor: whether it is one, and its number if so
 --   edgeFor p sa sc r                 the edge of the number r; ListsFor, BuildsFor: those of the numbers ns written, and those or refusal 4 or 6
@@ -26,7 +27,7 @@ use Rattle.grid.specs.declared.plan.Plan.{Plan}
 use Rattle.grid.specs.declared.shape.Shape.{Shape}
 use Rattle.grid.specs.Form.{Form, W}
 use Rattle.grid.specs.Cells.{capOf, strideOf}
-use Rattle.grid.specs.Table.{Steepest, Deepest, Few, Sizes, Prepared, Table, Flagged, Small}
+use Rattle.grid.specs.Table.{Steepest, Deepest, Few, Sizes, Prepared, Spans, Table, Flagged, Small}
 use Rattle.grid.specs.Edges.{isEdge, numberOf, edgeOf}
 use Rattle.grid.specs.Numbering.{tableNumber}
 use Rattle.grid.specs.Spelling.{edgesBy, edgesFor}
@@ -68,6 +69,9 @@ SmallFor p sa sc x = Small (p .k) (p .f) sa sc (p .hi) (p .ex) (p .ey) x
 
 abbrev pub FlaggedFor : Plan → List ℕ → List ℕ → List ℕ → List ℕ → ℕ → Type 0
 FlaggedFor p sa sc val ov x = Flagged (p .k) (p .f) sa sc (p .hi) (p .m) (p .ex) (p .ey) val ov x
+
+abbrev pub SpansFor : Plan → List ℕ → List ℕ → Type 0
+SpansFor p starts stops = Spans (p .f) (p .hi) (p .ex) (p .ey) starts stops (p .ex + 1)
 
 abbrev pub walksFor : Plan → List ℕ → List ℕ → ℕ
 walksFor p sa sc = W (p .k) (p .f) sa sc (p .ex) (p .ey)

@@ -1,8 +1,9 @@
 // The heights of a column that matter: behind the wall, and such that the end can still be reached.
 ghost use mathlib.Core.Path.{_≡_};
-ghost use Prim.Native.Nat.{_≤_};
+ghost use Prim.Native.Nat.{_+_, _≤_, _<_};
+ghost use lib.ListN.{length};
 ghost use Rattle.grid.specs.Form.{wall};
-ghost use Rattle.grid.specs.Table.{Fence, From, Roof, To};
+ghost use Rattle.grid.specs.Table.{Fence, From, Roof, To, Spans};
 
 // The wall ROOF + g is a roof of slope g: no walk is above it. A lesser f is a fence of slope f: no walk is below it; 0 is no wall.
 pub(crate) const ROOF: usize = 16;
@@ -58,4 +59,25 @@ pub(crate) fn to_at(f: usize, hi: usize, ey: usize, x: usize) -> usize
 {
     let reach = roof_at(f, x, hi * x / 6);
     if reach < ey { reach + 1 } else { ey + 1 }
+}
+
+// The bounds of the columns 1 to ex, worked out once: read back from memory they are no formula that the compiler puts into each of its tests of a column.
+pub(crate) fn spans(
+    starts: &mut [usize; 98],
+    stops: &mut [usize; 98],
+    f: usize,
+    hi: usize,
+    ex: usize,
+    ey: usize,
+)
+    requires { ⌜ (f ≤ 100) × (hi ≤ 1000) × (ex ≤ 97) × (ey ≤ 1000) ⌝ }
+    requires { ⌜ (ex < length (now starts)) × (ex < length (now stops)) ⌝ }
+    ensures { λ _. ⌜ Spans f hi ex ey (now (starts .exit)) (now (stops .exit)) (ex + 1) ⌝ }
+{
+    let mut x = 1;
+    while x <= ex {
+        starts[x] = from_at(f, hi, ex, ey, x);
+        stops[x] = to_at(f, hi, ey, x);
+        x += 1;
+    }
 }

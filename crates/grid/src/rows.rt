@@ -10,6 +10,7 @@ ghost use Rattle.grid.specs.Filling.{Begun, Filled};
 ghost use Rattle.grid.specs.Rows.{Rises, Cornered, Rowing, Rowed, Risen};
 use crate::Answer;
 use crate::plan::Plan;
+use std::num::wrapping_add_u64;
 
 // Whether one of two steps goes up by one, and the other doesn't.
 fn rises(a: usize, b: usize) -> bool
@@ -80,7 +81,7 @@ fn across(val: &[u64], three: bool, stride: usize, at: usize) -> u64
     if three { val[at - stride - 1] } else { 0 }
 }
 
-// Row y, from column y on: whether all its counts fit 64 bits.
+// Row y, from column y on: whether all its counts fit 64 bits. A sum that doesn't wraps, and is then below what was added.
 fn row(
     val: &mut [u64],
     sa: &[usize; 8],
@@ -101,14 +102,14 @@ fn row(
     while i < n {
         let a = val[at - 1];
         let b = across(val, p.k == 3, stride, at);
-        if 18446744073709551615 - sum < a {
+        sum = wrapping_add_u64(sum, a);
+        if sum < a {
             return false;
         }
-        sum += a;
-        if 18446744073709551615 - sum < b {
+        sum = wrapping_add_u64(sum, b);
+        if sum < b {
             return false;
         }
-        sum += b;
         at += stride;
         val[at] = sum;
         i += 1;

@@ -1,13 +1,12 @@
 // The table filled column by column: first without tests, and with flags from the first column that could need them.
 ghost use Prim.Native.Nat.{_+_};
-ghost use Rattle.grid.specs.Plans.{FlaggedFor};
+ghost use Rattle.grid.specs.Plans.{FlaggedFor, SpansFor};
 ghost use Rattle.grid.specs.Filling.{Begun, Before, After, Got, Resumed, Turn, Slow, Filled};
 use crate::Answer;
 use crate::column::column4;
 use crate::column::column8;
 use crate::column::is_small;
-use crate::cone::from_at;
-use crate::cone::to_at;
+use crate::cone::spans;
 use crate::flags::cell;
 use crate::flags::put;
 use crate::flags::total;
@@ -21,14 +20,17 @@ fn step(
     sa: &[usize; 8],
     sc: &[usize; 8],
     off: &[usize; 8],
+    starts: &[usize; 98],
+    stops: &[usize; 98],
     p: Plan,
     x: usize,
 ) -> bool
     requires { ⌜ Before p (now sa) (now sc) (now off) (now val) x ⌝ }
+    requires { ⌜ SpansFor p (now starts) (now stops) ⌝ }
     ensures { λ r. ⌜ After p (now (sa .entry)) (now (sc .entry)) (now (val .exit)) x r ⌝ }
 {
-    let from = from_at(p.f, p.hi, p.ex, p.ey, x);
-    let to = to_at(p.f, p.hi, p.ey, x);
+    let from = starts[x];
+    let to = stops[x];
     if to <= from {
         return true;
     }
@@ -79,14 +81,17 @@ fn turn(
     sa: &[usize; 8],
     sc: &[usize; 8],
     off: &[usize; 8],
+    starts: &[usize; 98],
+    stops: &[usize; 98],
     p: Plan,
     x: usize,
 )
     requires { ⌜ Turn p (now sa) (now sc) (now off) (now val) (now ov) x ⌝ }
+    requires { ⌜ SpansFor p (now starts) (now stops) ⌝ }
     ensures { λ _. ⌜ FlaggedFor p (now (sa .entry)) (now (sc .entry)) (now (val .exit)) (now (ov .exit)) (x + 1) ⌝ }
 {
-    let from = from_at(p.f, p.hi, p.ex, p.ey, x);
-    let to = to_at(p.f, p.hi, p.ey, x);
+    let from = starts[x];
+    let to = stops[x];
     if to <= from {
         return;
     }
@@ -94,15 +99,24 @@ fn turn(
 }
 
 // The columns that need no test; the answer is the first that is not filled.
-fn fast(val: &mut [u64], sa: &[usize; 8], sc: &[usize; 8], off: &[usize; 8], p: Plan) -> usize
+fn fast(
+    val: &mut [u64],
+    sa: &[usize; 8],
+    sc: &[usize; 8],
+    off: &[usize; 8],
+    starts: &[usize; 98],
+    stops: &[usize; 98],
+    p: Plan,
+) -> usize
     requires { ⌜ Begun p (now sa) (now sc) (now off) (now val) ⌝ }
+    requires { ⌜ SpansFor p (now starts) (now stops) ⌝ }
     ensures { λ r. ⌜ Got p (now (sa .entry)) (now (sc .entry)) (now (val .exit)) r ⌝ }
 {
     let ex = p.ex;
     val[(p.m + p.ey + 1) + p.m] = 1;
     let mut x = 1;
     while x <= ex {
-        let small = step(val, sa, sc, off, p, x);
+        let small = step(val, sa, sc, off, starts, stops, p, x);
         x += 1;
         if !small {
             return x;
@@ -117,17 +131,20 @@ fn rest(
     sa: &[usize; 8],
     sc: &[usize; 8],
     off: &[usize; 8],
+    starts: &[usize; 98],
+    stops: &[usize; 98],
     p: Plan,
     first: usize,
 ) -> Answer
     requires { ⌜ Resumed p (now sa) (now sc) (now off) (now val) first ⌝ }
+    requires { ⌜ SpansFor p (now starts) (now stops) ⌝ }
     ensures { λ r. ⌜ Filled p (now (sa .entry)) (now (sc .entry)) (now (val .exit)) r ⌝ }
 {
     let ex = p.ex;
     let mut ov = [0u8; 3712];
     let mut x = first;
     while x <= ex {
-        turn(val, &mut ov, sa, sc, off, p, x);
+        turn(val, &mut ov, sa, sc, off, starts, stops, p, x);
         x += 1;
     }
     cell(val, &ov, (ex + 1) * (p.m + p.ey + 1) + p.m + p.ey)
@@ -144,9 +161,12 @@ fn fill_columns(
     requires { ⌜ Begun p (now sa) (now sc) (now off) (now val) ⌝ }
     ensures { λ r. ⌜ Filled p (now (sa .entry)) (now (sc .entry)) (now (val .exit)) r ⌝ }
 {
-    let next = fast(val, sa, sc, off, p);
+    let mut starts = [0usize; 98];
+    let mut stops = [0usize; 98];
+    spans(&mut starts, &mut stops, p.f, p.hi, p.ex, p.ey);
+    let next = fast(val, sa, sc, off, &starts, &stops, p);
     if next <= p.ex {
-        return rest(val, sa, sc, off, p, next);
+        return rest(val, sa, sc, off, &starts, &stops, p, next);
     }
     let end = (p.ex + 1) * (p.m + p.ey + 1) + p.m + p.ey;
     let v = val[end];

@@ -2,8 +2,9 @@ use Prim.Native.Nat.{_-_, _^_, _<_}
 use mathlib.Core.Path.{_≡_, refl, sym, subst}
 use lib.Dec.{T}
 use native.Mathlib.Omega.{arith}
+use borrow.Author.Needs.{needs}
 use lib.ListN.{length, length-set}
-use Rattle.grid.proofs.Along.{Along, row-at, row-small, row-far, first-fits, along-start, along-in, along-small, along-far, along-done, next-in, next-small, along-over, along-next}
+use Rattle.grid.proofs.Along.{Along, row-at, row-small, row-far, first-fits, along-start, along-in, along-small, along-far, along-done, next-in, next-small, along-over, along-next, wrap-out, wrapped-in, wrapped-out, wrapped-fits}
 use Rattle.grid.proofs.rows.row.Statement.{statement}
 use Rattle.grid.proofs.rows.row.Tie as tie
 
@@ -73,61 +74,51 @@ across-requires : tie.Need-across-requires Inv-loop μ-loop
 across-requires c κs =
     (omega (arith, along-far (c .before .before .before .before .loop .inv .2)), omega (arith, along-in (c .before .before .before .before .loop .inv .2)))
 
-sub-if1 : tie.Need-sub-if1 Inv-loop μ-loop
-sub-if1 c =
-    omega (arith, c .before .before .before .before .before .loop .inv .1)
+wrapping-add-u64-requires : tie.Need-wrapping-add-u64-requires Inv-loop μ-loop
+wrapping-add-u64-requires c κs = search needs
 
 same-length : tie.Need-same-length Inv-loop μ-loop
 same-length c =
-    simp length-set at (c .before .before .before .before .before .before .loop .inv .0)
+    simp length-set at (c .before .before .before .before .before .before .before .loop .inv .0)
 
 returns : tie.Need-returns Inv-loop μ-loop
 returns c =
-    record { rows = λ e. absurd (subst T (sym e) tt); over = λ e. along-over (c .before .before .before .before .before .before .loop .inv .2) (c .before .before .before .before .before .loop-test .taken) _ _ refl (c .before .across .ensures) (omega (arith, c .if1 .taken)) }
+    record { rows = λ e. absurd (subst T (sym e) tt); over = λ e. along-over (c .before .before .before .before .before .before .before .loop .inv .2) (c .before .before .before .before .before .before .loop-test .taken) _ _ refl (c .before .before .across .ensures) (omega (arith, wrap-out (c .before .before .before .before .before .before .before .loop .inv .1) (c .before .wrapping-add-u64 .ensures) (c .if1 .taken))) }
 
-add-sum : tie.Need-add-sum Inv-loop μ-loop
-add-sum c =
-    omega (arith, c .before .before .before .before .before .before .loop .inv .1, c .if1 .left)
-
-sub-if2 : tie.Need-sub-if2 Inv-loop μ-loop
-sub-if2 c =
-    omega (arith, c .before .before .before .before .before .before .loop .inv .1, c .if1 .left)
+wrapping-add-u64-requires-2 : tie.Need-wrapping-add-u64-requires-2 Inv-loop μ-loop
+wrapping-add-u64-requires-2 c κs = search needs
 
 same-length-2 : tie.Need-same-length-2 Inv-loop μ-loop
 same-length-2 c =
-    simp length-set at (c .before .before .before .before .before .before .before .loop .inv .0)
+    simp length-set at (c .before .before .before .before .before .before .before .before .before .loop .inv .0)
 
 returns-2 : tie.Need-returns-2 Inv-loop μ-loop
 returns-2 c =
-    record { rows = λ e. absurd (subst T (sym e) tt); over = λ e. along-over (c .before .before .before .before .before .before .before .loop .inv .2) (c .before .before .before .before .before .before .loop-test .taken) _ _ refl (c .before .before .across .ensures) (omega (arith, c .if2 .taken)) }
-
-add-sum-2 : tie.Need-add-sum-2 Inv-loop μ-loop
-add-sum-2 c =
-    omega (arith, c .before .before .before .before .before .before .before .loop .inv .1, c .before .if1 .left, c .if2 .left)
+    record { rows = λ e. absurd (subst T (sym e) tt); over = λ e. along-over (c .before .before .before .before .before .before .before .before .before .loop .inv .2) (c .before .before .before .before .before .before .before .before .loop-test .taken) _ _ refl (c .before .before .before .before .across .ensures) (wrapped-out (c .before .before .before .before .before .before .before .before .before .loop .inv .1) (c .before .before .before .wrapping-add-u64 .ensures) (c .before .before .if1 .left) (c .before .wrapping-add-u642 .ensures) (c .if2 .taken)) }
 
 add-at-4 : tie.Need-add-at-4 Inv-loop μ-loop
 add-at-4 c =
-    omega (arith, next-small (c .before .before .before .before .before .before .before .loop .inv .2) (c .before .before .before .before .before .before .loop-test .taken))
+    omega (arith, next-small (c .before .before .before .before .before .before .before .before .before .loop .inv .2) (c .before .before .before .before .before .before .before .before .loop-test .taken))
 
 mul-val-2 : tie.Need-mul-val-2 Inv-loop μ-loop
 mul-val-2 c =
-    omega (arith, next-small (c .before .before .before .before .before .before .before .loop .inv .2) (c .before .before .before .before .before .before .loop-test .taken))
+    omega (arith, next-small (c .before .before .before .before .before .before .before .before .before .loop .inv .2) (c .before .before .before .before .before .before .before .before .loop-test .taken))
 
 slice-write-val-2 : tie.Need-slice-write-val-2 Inv-loop μ-loop
 slice-write-val-2 c =
-    omega (arith, next-in (c .before .before .before .before .before .before .before .loop .inv .2) (c .before .before .before .before .before .before .loop-test .taken))
+    omega (arith, next-in (c .before .before .before .before .before .before .before .before .before .loop .inv .2) (c .before .before .before .before .before .before .before .before .loop-test .taken))
 
 add-i : tie.Need-add-i Inv-loop μ-loop
 add-i c =
-    omega (arith, c .before .before .before .before .before .before .loop-test .taken)
+    omega (arith, c .before .before .before .before .before .before .before .before .loop-test .taken)
 
 loop-less : tie.Need-loop-less Inv-loop μ-loop
 loop-less c =
-    omega (arith, c .before .before .before .before .before .before .loop-test .taken)
+    omega (arith, c .before .before .before .before .before .before .before .before .loop-test .taken)
 
 loop-again : tie.Need-loop-again Inv-loop μ-loop
 loop-again c =
-    (simp length-set (simp length-set at (c .before .before .before .before .before .before .before .loop .inv .0)), omega (arith, c .before .before .before .before .before .before .before .loop .inv .1, c .before .if1 .left, c .if2 .left), along-next (c .before .before .before .before .before .before .before .loop .inv .2) (c .before .before .before .before .before .before .loop-test .taken) _ _ refl (c .before .before .across .ensures) _ _ (omega arith) (omega arith))
+    (simp length-set (simp length-set at (c .before .before .before .before .before .before .before .before .before .loop .inv .0)), wrapped-fits (c .before .before .before .before .before .before .before .before .before .loop .inv .1) (c .before .before .before .wrapping-add-u64 .ensures) (c .before .before .if1 .left) (c .before .wrapping-add-u642 .ensures) (c .if2 .left), along-next (c .before .before .before .before .before .before .before .before .before .loop .inv .2) (c .before .before .before .before .before .before .before .before .loop-test .taken) _ _ refl (c .before .before .before .before .across .ensures) _ _ (omega arith) (wrapped-in (c .before .before .before .before .before .before .before .before .before .loop .inv .1) (c .before .before .before .wrapping-add-u64 .ensures) (c .before .before .if1 .left) (c .before .wrapping-add-u642 .ensures) (c .if2 .left)))
 
 same-length-3 : tie.Need-same-length-3 Inv-loop μ-loop
 same-length-3 c =
@@ -158,14 +149,12 @@ row-spec =
     mul-a
     slice-read-a
     across-requires
-    sub-if1
+    wrapping-add-u64-requires
     same-length
     returns
-    add-sum
-    sub-if2
+    wrapping-add-u64-requires-2
     same-length-2
     returns-2
-    add-sum-2
     add-at-4
     mul-val-2
     slice-write-val-2

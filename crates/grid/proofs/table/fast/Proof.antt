@@ -9,32 +9,32 @@ use Rattle.grid.proofs.table.fast.Statement.{statement}
 use Rattle.grid.proofs.table.fast.Tie as tie
 
 abbrev Inv-loop : tie.InvT-loop
-Inv-loop val₀ sa sc off p ex x₀ val x =
+Inv-loop val₀ sa sc off starts stops p ex x₀ val x =
     (1 ≤ x) × (x ≤ p .ex + 1) × (length val ≡ length val₀) × PreparedFor p sa sc off (length val) × TableFor p sa sc val x × SmallFor p sa sc x
 
 abbrev μ-loop : tie.MeasureT-loop
-μ-loop val₀ sa sc off p ex x₀ val x = p .ex + 1 - x
+μ-loop val₀ sa sc off starts stops p ex x₀ val x = p .ex + 1 - x
 
 add-val : tie.Need-add-val Inv-loop μ-loop
-add-val c = let p = c .before .before .pre .ready .sizes in omega arith
+add-val c = let p = c .before .before .pre .0 .ready .sizes in omega arith
 
 add-val-2 : tie.Need-add-val-2 Inv-loop μ-loop
-add-val-2 c = let p = c .before .before .pre .ready .sizes in omega arith
+add-val-2 c = let p = c .before .before .pre .0 .ready .sizes in omega arith
 
 add-val-3 : tie.Need-add-val-3 Inv-loop μ-loop
-add-val-3 c = let p = c .before .before .before .pre .ready .sizes in omega arith
+add-val-3 c = let p = c .before .before .before .pre .0 .ready .sizes in omega arith
 
 mul-val : tie.Need-mul-val Inv-loop μ-loop
-mul-val c = let p = c .before .before .before .pre .ready .sizes in omega arith
+mul-val c = let p = c .before .before .before .pre .0 .ready .sizes in omega arith
 
 slice-write-val : tie.Need-slice-write-val Inv-loop μ-loop
-slice-write-val c = first-in (c .before .before .before .pre)
+slice-write-val c = first-in (c .before .before .before .pre .0)
 
 loop-holds : tie.Need-loop-holds Inv-loop μ-loop
-loop-holds c = (omega arith, omega arith, refl, begin-ready (c .before .before .before .pre), begin-table (c .before .before .before .pre), begin-small (c .before .before .before .pre))
+loop-holds c = (omega arith, omega arith, refl, begin-ready (c .before .before .before .pre .0), begin-table (c .before .before .before .pre .0), begin-small (c .before .before .before .pre .0))
 
 step-requires : tie.Need-step-requires Inv-loop μ-loop
-step-requires c κs = record { ready = c .before .before .loop .inv .3; table = c .before .before .loop .inv .4; small = c .before .before .loop .inv .5; start = c .before .before .loop .inv .0; end = c .before .loop-test .taken }
+step-requires c κs = (record { ready = c .before .before .loop .inv .3; table = c .before .before .loop .inv .4; small = c .before .before .loop .inv .5; start = c .before .before .loop .inv .0; end = c .before .loop-test .taken }, c .before .before .before .before .before .before .pre .1)
 
 add-x : tie.Need-add-x Inv-loop μ-loop
 add-x c = let p = c .before .before .before .before .before .loop .inv .3 .sizes in omega arith

@@ -9,20 +9,20 @@ use Rattle.grid.proofs.table.rest.Statement.{statement}
 use Rattle.grid.proofs.table.rest.Tie as tie
 
 abbrev Inv-loop : tie.InvT-loop
-Inv-loop val₀ sa sc off p first ex ov₀ x₀ val ov x =
+Inv-loop val₀ sa sc off starts stops p first ex ov₀ x₀ val ov x =
     (1 ≤ x) × (x ≤ p .ex + 1) × (length val ≡ length val₀) × (length ov ≡ 3712) × PreparedFor p sa sc off (length val) × FlaggedFor p sa sc val ov x
 
 abbrev μ-loop : tie.MeasureT-loop
-μ-loop val₀ sa sc off p first ex ov₀ x₀ val ov x = p .ex + 1 - x
+μ-loop val₀ sa sc off starts stops p first ex ov₀ x₀ val ov x = p .ex + 1 - x
 
 loop-holds : tie.Need-loop-holds Inv-loop μ-loop
-loop-holds c = (c .before .pre .start, omega (arith, c .before .pre .end), refl, refl, c .before .pre .ready, resume (c .before .args .val .now) (c .before .pre .table) (λ j. omega (arith, c .slice-known .given j)))
+loop-holds c = (c .before .pre .0 .start, omega (arith, c .before .pre .0 .end), refl, refl, c .before .pre .0 .ready, resume (c .before .args .val .now) (c .before .pre .0 .table) (λ j. omega (arith, c .slice-known .given j)))
 
 slice-aggregate-turn : tie.Need-slice-aggregate-turn Inv-loop μ-loop
 slice-aggregate-turn c = search needs
 
 turn-requires : tie.Need-turn-requires Inv-loop μ-loop
-turn-requires c κs = record { ready = c .before .before .before .loop .inv .4; room = omega (arith, c .before .before .before .loop .inv .4 .sizes .cells); table = c .before .before .before .loop .inv .5; start = c .before .before .before .loop .inv .0; end = c .before .before .loop-test .taken }
+turn-requires c κs = (record { ready = c .before .before .before .loop .inv .4; room = omega (arith, c .before .before .before .loop .inv .4 .sizes .cells); table = c .before .before .before .loop .inv .5; start = c .before .before .before .loop .inv .0; end = c .before .before .loop-test .taken }, c .before .before .before .before .before .pre .1)
 
 add-x : tie.Need-add-x Inv-loop μ-loop
 add-x c = let p = c .before .before .before .before .before .before .before .loop .inv .4 .sizes in omega arith

@@ -1,19 +1,27 @@
+use native.Mathlib.Omega.{arith}
+use Rattle.grid.proofs.Walls.{span-low, span-high}
 use Rattle.grid.proofs.Phases.{turn-none}
 use borrow.Author.Needs.{needs}
 use Rattle.grid.proofs.table.turn.Statement.{statement}
 use Rattle.grid.proofs.table.turn.Tie as tie
 
-from-at-requires : tie.Need-from-at-requires
-from-at-requires c κs = search needs
+mul-from : tie.Need-mul-from
+mul-from c = search needs
 
-to-at-requires : tie.Need-to-at-requires
-to-at-requires c κs = search needs
+element-copy-out-from : tie.Need-element-copy-out-from
+element-copy-out-from c = omega (arith, c .before .before .pre .0 .end, c .before .before .pre .0 .ready .sizes .ex-le)
+
+mul-to : tie.Need-mul-to
+mul-to c = search needs
+
+element-copy-out-to : tie.Need-element-copy-out-to
+element-copy-out-to c = omega (arith, c .before .before .before .pre .0 .end, c .before .before .before .pre .0 .ready .sizes .ex-le)
 
 returns : tie.Need-returns
-returns c = turn-none (c .before .before .before .before .before .pre) (c .before .before .from-at .ensures) (c .before .to-at .ensures) (c .if1 .taken)
+returns c = turn-none (c .before .before .before .before .before .pre .0) (span-low (c .before .before .before .before .before .pre .1) (c .before .before .before .before .before .pre .0 .start) (c .before .before .before .before .before .pre .0 .end)) (span-high (c .before .before .before .before .before .pre .1) (c .before .before .before .before .before .pre .0 .start) (c .before .before .before .before .before .pre .0 .end)) (c .if1 .taken)
 
 slow-requires : tie.Need-slow-requires
-slow-requires c κs = search needs
+slow-requires c κs = record { turn = c .before .before .before .before .before .before .before .pre .0; fr = span-low (c .before .before .before .before .before .before .before .pre .1) (c .before .before .before .before .before .before .before .pre .0 .start) (c .before .before .before .before .before .before .before .pre .0 .end); up = span-high (c .before .before .before .before .before .before .before .pre .1) (c .before .before .before .before .before .before .before .pre .0 .start) (c .before .before .before .before .before .before .before .pre .0 .end); lt = c .before .before .if1 .left }
 
 same-length : tie.Need-same-length
 same-length c = search needs
@@ -28,8 +36,10 @@ pub turn-spec : {M : Type 1} → statement M
 turn-spec =
     tie.close
     (tie.spec
-    from-at-requires
-    to-at-requires
+    mul-from
+    element-copy-out-from
+    mul-to
+    element-copy-out-to
     returns
     slow-requires
     same-length
