@@ -61,7 +61,7 @@ pub(crate) fn to_at(f: usize, hi: usize, ey: usize, x: usize) -> usize
     if reach < ey { reach + 1 } else { ey + 1 }
 }
 
-// The bounds of the columns 1 to ex, worked out once: read back from memory they are no formula that the compiler puts into each of its tests of a column.
+// The bounds of the columns 1 to ex, worked out once: from a formula the compiler would work them out anew for each of its tests.
 pub(crate) fn spans(
     starts: &mut [usize; 98],
     stops: &mut [usize; 98],
