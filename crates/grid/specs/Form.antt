@@ -20,6 +20,8 @@ use Rattle.backward.specs.Grid.{Spot, Steps, off, reach, paths}
 abbrev pub roof : ℕ
 roof = 16
 
+-- "Stays: y ≥ 0" of family 7 is the fence of slope 3 under the shear (x, y + 3x); slid down by d it is that of slope 3 - d, mirrored at d
+-- the roof of slope d - 3
 unfoldable pub wall : ℕ → ℕ → ℕ → Bool
 wall f x y = pick (ltb f roof) (leb (f * x) y) (leb y ((f - roof) * x))
 
