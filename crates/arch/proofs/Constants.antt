@@ -2,8 +2,8 @@
 -- it starts with the count for 0. Assumes nothing.
 --
 --   turned xs acc                    xs turned round, before acc
---   upwards n                        the counts for 0, 1, .., n
---   schroder-table, motzkin-table    it is a table, up to the last count that fits
+--   upwards n rest                   the counts for 0, 1, .., n, before rest
+--   schroder-table, motzkin-table    it is a table, up to the last count that fits; Schroder's has zeros behind it
 use mathlib.Core.Path.{_≡_, refl, ap, _∙_, sym}
 use mathlib.Core.Bool.{Bool, true}
 use mathlib.Core.List.{List, [], _∷_}
@@ -11,7 +11,7 @@ use Prim.Native.Nat.{ℕ, zero, suc, _+_, _-_, _^_, _≤_, _<_}
 use native.Mathlib.Nat.{le-refl}
 use native.Mathlib.Decide.{ℕ-discrete}
 use native.Mathlib.Omega.{arith}
-use lib.ListN.{length, getD}
+use lib.ListN.{length, getD, replicate}
 use Rattle.arches.specs.Counts.{count, counts}
 use Rattle.arches.proofs.Counting.{counts-at}
 use Rattle.arches.proofs.Limits.{Family, schroder-limit, motzkin-limit}
@@ -53,31 +53,31 @@ module _ (d : Bool) (v : ℕ) where
   length-counts zero = refl
   length-counts (suc n) = ap suc (length-counts n)
 
-  unfoldable pub upwards : ℕ → List ℕ
-  upwards n = turned (counts d v n) []
+  unfoldable pub upwards : ℕ → List ℕ → List ℕ
+  upwards n rest = turned (counts d v n) rest
 
-  upwards-at : (n k : ℕ) → k ≤ n → getD (upwards n) k 0 ≡ count d v k
+  upwards-at : (n k : ℕ) (rest : List ℕ) → k ≤ n → getD (upwards n rest) k 0 ≡ count d v k
   unfolding upwards
-  upwards-at n k h =
+  upwards-at n k rest h =
       let e : length (counts d v n) - 1 - k ≡ n - k = omega (arith, length-counts n) in
       let g : n - (n - k) ≡ k = omega arith in
-      turned-at (counts d v n) [] k (omega (arith, length-counts n)) ∙ ap (λ (z : ℕ). getD (counts d v n) z 0) e ∙ counts-at d v n (n - k) (omega arith) ∙ ap (count d v) g
+      turned-at (counts d v n) rest k (omega (arith, length-counts n)) ∙ ap (λ (z : ℕ). getD (counts d v n) z 0) e ∙ counts-at d v n (n - k) (omega arith) ∙ ap (count d v) g
 
-  length-upwards : (n : ℕ) → length (upwards n) ≡ suc n
+  length-upwards : (n : ℕ) (rest : List ℕ) → length (upwards n rest) ≡ suc n + length rest
   unfolding upwards
-  length-upwards n = omega (arith, length-turned (counts d v n) [], length-counts n)
+  length-upwards n rest = omega (arith, length-turned (counts d v n) rest, length-counts n)
 
-  upwards-table : (n : ℕ) → Family d v → n ≤ 64 → count d v n < 2 ^ 64 → Table d v n (upwards n)
-  upwards-table n f h l = record {
+  upwards-table : (n : ℕ) (rest : List ℕ) → Family d v → n ≤ 45 → count d v n < 2 ^ 64 → Table d v n (upwards n rest)
+  upwards-table n rest f h l = record {
     family = f;
-    long = omega (arith, length-upwards n);
-    full = λ k g. upwards-at n k g;
+    long = omega (arith, length-upwards n rest);
+    full = λ k g. upwards-at n k rest g;
     fits = l;
     small = h;
   }
 
-pub schroder-table : Table true 0 28 (upwards true 0 28)
-schroder-table = upwards-table true 0 28 (omega arith) (omega arith) (schroder-limit 28 .0 (le-refl 28))
+pub schroder-table : Table true 0 28 (upwards true 0 28 (replicate 17 0))
+schroder-table = upwards-table true 0 28 (replicate 17 0) (omega arith) (omega arith) (schroder-limit 28 .0 (le-refl 28))
 
-pub motzkin-table : Table true 1 45 (upwards true 1 45)
-motzkin-table = upwards-table true 1 45 (omega arith) (omega arith) (motzkin-limit 45 .0 (le-refl 45))
+pub motzkin-table : Table true 1 45 (upwards true 1 45 [])
+motzkin-table = upwards-table true 1 45 [] (omega arith) (omega arith) (motzkin-limit 45 .0 (le-refl 45))

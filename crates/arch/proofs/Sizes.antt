@@ -6,15 +6,17 @@
 --   le-more, more-le               a sum's first part
 --   half-le, half-less, half-back  a half, and what is before it
 --   falls-other, falls-less        the measure falls: at a call of the other function by the same size, and at one by less
+--   falls-ending, falls-spell, falls-first, falls-inside    the same where three functions call each other
 --   left-less, left-one            what is left of the bytes falls
---   room-less, twice-most, twice-le, in-as-many    room for less, for the bytes of an edge, and for one among as many
+--   room-last, some-end, back-last, last-under    room before the last step
+--   twice-most, twice-le, in-as-many    room for the bytes of an edge, and for one among as many
 --   back-less, back-le             the place before an inside
 --   number-some, number-last       the count is more than a number below it
 --   span-less, first-le, first-less, second-le, second-less    the sizes of an arch's parts
 --   part-le, wide-less             the sizes on the way to a point
 --   rest-less, rest-le             what is left of the room for an arch's first part
 --   both-less, both-fits, both-le  the sizes of both parts, in the room
---   byte-fits                      a place in the table, in bytes
+--   in-table, byte-fits            a place in the table, and in bytes
 --   next-fits, sum-fits, east-fits, wide-fits, parts-fit, sum-parts, edge-fits    the sums that the code makes fit
 use mathlib.Core.Path.{_≡_}
 use mathlib.Core.Logic.{_≢_}
@@ -59,6 +61,19 @@ falls-other n t e = omega arith
 pub falls-less : (m n t : ℕ) → 2 * n ≡ t → m < n → 2 * m + 1 < t
 falls-less m n t e l = omega arith
 
+pub falls-ending : (n t : ℕ) → 3 * n + 1 ≡ t → 3 * n < t
+falls-ending n t e = omega arith
+
+pub falls-spell : (n t : ℕ) → 3 * n + 2 ≡ t → 3 * n + 1 < t
+falls-spell n t e = omega arith
+
+module _ (m n t : ℕ) (e : 3 * n ≡ t) (l : m < n) where
+  pub falls-first : 3 * m + 1 < t
+  falls-first = omega arith
+
+  pub falls-inside : 3 * m + 2 < t
+  falls-inside = omega arith
+
 pub left-less : (k next l : ℕ) → 0 < k → next + k ≤ l → l - (next + k) < l - next
 left-less k next l h g = omega arith
 
@@ -66,13 +81,24 @@ pub left-one : (next l : ℕ) → next < l → l - (next + 1) < l - next
 left-one next l h = omega arith
 
 -- ---- room and places
-pub room-less : (m n k : ℕ) → m ≤ n → n + n ≤ k → m + m ≤ k
-room-less m n k l h = omega arith
+-- the room before the last of n steps, for less
+pub room-last : (m n last : ℕ) → m < n → n + n ≤ last + 1 → m + m ≤ last
+room-last m n last l h = omega arith
 
-pub twice-most : (n : ℕ) → n ≤ 64 → n + n ≤ 128
+module _ (n end : ℕ) (l : 0 < n) (h : n + n ≤ end) where
+  pub some-end : 1 ≤ end
+  some-end = omega arith
+
+  pub back-last : end - 1 + 1 ≡ end
+  back-last = omega arith
+
+pub last-under : (n end most : ℕ) → 0 < n → n + n ≤ end → end ≤ most → end - 1 < most
+last-under n end most l h g = omega arith
+
+pub twice-most : (n : ℕ) → n ≤ 45 → n + n ≤ 128
 twice-most n h = omega arith
 
-pub twice-le : (n k : ℕ) → n ≤ 64 → 128 ≤ k → n + n ≤ k
+pub twice-le : (n k : ℕ) → n ≤ 45 → 128 ≤ k → n + n ≤ k
 twice-le n k h l = omega arith
 
 pub in-as-many : (i m k l : ℕ) → i < m → m ≤ l → k ≡ l → i < k
@@ -123,26 +149,29 @@ module _ (i j room n : ℕ) (h : i + j + 1 ≤ room) (l : room ≤ n) where
   pub both-less : i + j + 0 < n
   both-less = omega arith
 
-  pub both-fits : n ≤ 64 → (i + j < 2 ^ 64) × (i + j + 1 < 2 ^ 64)
+  pub both-fits : n ≤ 45 → (i + j < 2 ^ 64) × (i + j + 1 < 2 ^ 64)
   both-fits g = (omega arith, omega arith)
 
   pub both-le : i ≤ n
   both-le = omega arith
 
--- ---- what fits 64 bits
-pub byte-fits : (i n : ℕ) → i ≤ n → n ≤ 64 → i * 8 < 2 ^ 64
+-- ---- what fits the table, and 64 bits
+pub in-table : (i n : ℕ) → i ≤ n → n ≤ 45 → i < 46
+in-table i n l h = omega arith
+
+pub byte-fits : (i n : ℕ) → i ≤ n → n ≤ 45 → i * 8 < 2 ^ 64
 byte-fits i n l h = omega arith
 
 pub next-fits : (next l : ℕ) → next < l → l < 2 ^ 64 → next + 1 < 2 ^ 64
 next-fits next l h g = omega arith
 
-pub sum-fits : (a n : ℕ) → a ≤ n → n ≤ 64 → (a < 2 ^ 64) × (a + 1 < 2 ^ 64)
+pub sum-fits : (a n : ℕ) → a ≤ n → n ≤ 45 → (a < 2 ^ 64) × (a + 1 < 2 ^ 64)
 sum-fits a n l h = (omega arith, omega arith)
 
-pub east-fits : (x v n : ℕ) → x ≤ n → n ≤ 64 → v ≤ 1 → (x + v < 2 ^ 64) × (x + v + 1 < 2 ^ 64)
+pub east-fits : (x v n : ℕ) → x ≤ n → n ≤ 45 → v ≤ 1 → (x + v < 2 ^ 64) × (x + v + 1 < 2 ^ 64)
 east-fits x v n l h g = (omega arith, omega arith)
 
-pub wide-fits : (x m v n : ℕ) → x + (m + v + 1) ≤ n → n ≤ 64 → (m < 2 ^ 64) × (m + v < 2 ^ 64) × (m + v + 1 < 2 ^ 64)
+pub wide-fits : (x m v n : ℕ) → x + (m + v + 1) ≤ n → n ≤ 45 → (m < 2 ^ 64) × (m + v < 2 ^ 64) × (m + v + 1 < 2 ^ 64)
 wide-fits x m v n l h = (omega arith, omega arith, omega arith)
 
 pub parts-fit : (a b c : ℕ) → a + (b + c) < 2 ^ 64 → (c < 2 ^ 64) × (b + c < 2 ^ 64)
@@ -151,5 +180,5 @@ parts-fit a b c h = (omega arith, omega arith)
 pub sum-parts : (a b k : ℕ) → a + b ≡ k → k < 2 ^ 64 → (b < 2 ^ 64) × (a + b < 2 ^ 64)
 sum-parts a b k e h = (omega arith, omega arith)
 
-pub edge-fits : (at k n l m : ℕ) → at + 128 ≤ l → k ≤ n + n → n ≤ 64 → l ≡ m → m < 2 ^ 64 → at + k < 2 ^ 64
+pub edge-fits : (at k n l m : ℕ) → at + 128 ≤ l → k ≤ n + n → n ≤ 45 → l ≡ m → m < 2 ^ 64 → at + k < 2 ^ 64
 edge-fits at k n l m h g s e f = omega arith

@@ -1,60 +1,42 @@
--- Building: the tree of a number is written to the front of the bytes, part by part. By the bytes before and after each store, and by
--- the numbers of the arch's two parts, which no other tree of that size has. Assumes nothing.
+-- Building: the tree of a number is spelt from its last step, and then written to the front of the bytes. By the bytes before and after
+-- each store, and by the numbers of the arch's two parts, which no other tree of that size has. Assumes nothing.
 --
---   wide, with-d                               the last step: an arch, which is not too wide, or `D`
---   spot-pos, spot-rem, spot-quot              the two parts' numbers, from what is left where the number falls
---   written-none, written-dee, written-arch    an empty path, one that ends in `D`, one that ends in an arch
---   written-length                             as many bytes as there were
---   dee-room, dee-length, dee-in, dee-fits     the byte of a last `D`
---   first-room, first-length, first-before, first-in, first-to, first-fits, part-room    the byte between an arch's parts, and the
---                                              bytes that are left for the second
---   second-before, second-fits                 the byte after it
---   Rooms, rooms                               what the code asks after its second call
+--   wide, with-d                      the last step: an arch, which is not too wide, or `D`
+--   spot-pos, spot-rem, spot-quot     the two parts' numbers, from what is left where the number falls
+--   spelt-none, spelt-dee, spelt-arch an empty path, one that ends in `D`, one that ends in an arch
+--   spelt-before                      as many bytes as there were
+--   Insides, insides                  what the code asks between an arch's inside and its first part
+--   spelt-whole, put-written, put-never    the spelt bytes, put to the front of others: there is room
 use mathlib.Core.Path.{_≡_, refl, sym, ap, ap₂, _∙_}
 use mathlib.Core.Bool.{Bool}
 use mathlib.Core.List.{List, [], _∷_, _++_, append-nil, append-assoc}
-use Prim.Native.Nat.{ℕ, suc, _+_, _-_, _*_, _/_, _%_, _^_, _≤_, _<_, zero-le}
+use Prim.Native.Nat.{ℕ, suc, _+_, _-_, _*_, _/_, _%_, _≤_, _<_}
 use native.Mathlib.Nat.{mod-add-div, mod-lt, div-lt-iff-lt-mul, mul-comm}
 use native.Mathlib.Decide.{decLe}
 use native.Mathlib.Omega.{arith}
 use lib.Dec.{T}
-use lib.ListN.{length, take, drop, set, length-append, length-set, length-drop, drop-of-length-le}
-use lib.Seq.{take-at, drop-at, append-snoc, drop-drop}
-use borrow.Rule.Slice.PartMut.{putMid}
+use lib.ListN.{length, take, drop, set, length-append, length-set, length-drop, take-append-drop, drop-of-length-le, replicate, length-replicate}
+use lib.Seq.{append-snoc, take-all, take-set-le, take-take, set-split, drop-at, length-take-le}
+use borrow.Author.Tests.{le-leb}
 use Rattle.arches.specs.Counts.{ifD, count}
 use Rattle.arches.specs.Trees.{Tree, size, number, build, print}
 use Rattle.arches.specs.Trees.Tree.{dee, arch}
 use Rattle.arches.proofs.Counting.{ifD-pos, count-short}
 use Rattle.arches.proofs.Lengths.{print-length}
 use Rattle.arches.proofs.Ranking.{pos-of-product, number-arch, number-one, build-built}
-use Rattle.job.proofs.Puts.{put-byte}
+use Rattle.rules.specs.Refusals.Answer.{accepted}
+use Rattle.rules.specs.Answers.{written}
+use Rattle.job.specs.declared.Built.{Built}
+use Rattle.job.specs.declared.Built.the-variants.{Length, Refused}
+use Rattle.job.specs.Replies.{BuiltAs}
+use Rattle.job.proofs.Says.{value-one, value-not}
 use Rattle.arch.specs.Sums.{Falls}
-use Rattle.arch.specs.Answers.{Written}
-use Rattle.arch.proofs.Reading.{tail-part}
+use Rattle.arch.specs.Answers.{Written, Spelt}
 
-built-is : (d : Bool) (v n r : ℕ) (t : Tree d) → size d v t ≡ n → number d v t ≡ r → r < count d v n → t ≡ build d v n n r
+built-is : (d : Bool) (v n r : ℕ) (t : Tree d) → size d v t ≡ n → number d v t ≡ r → r < count d v n → build d v n n r ≡ t
 built-is d v n r t z q lt =
     let b = build-built d v n n r (omega arith) lt in
-    number-one d v t (build d v n n r) (z ∙ sym (b .sized)) (q ∙ sym (b .numbered))
-
--- what is written is the tree t
-written-is : (d : Bool) (v n r : ℕ) (old new : List ℕ) (k : ℕ) (t : Tree d) → size d v t ≡ n → number d v t ≡ r → r < count d v n
-    → new ≡ print d v t ++ drop k old → length (print d v t) ≡ k → Written d v n r old new k
-written-is d v n r old new k t z q lt s l =
-    let e = built-is d v n r t z q lt in
-    record {
-      shown = rw e at s;
-      long = rw e at l;
-      short = omega (arith, print-length d v t);
-    }
-
-pub written-none : (d : Bool) (v n r : ℕ) (l : List ℕ) → n ≡ 0 → Written d v n r l l 0
-unfolding print build
-written-none d v n r l e = record {
-  shown = rw e refl;
-  long = rw e refl;
-  short = zero-le;
-}
+    number-one d v (build d v n n r) t (b .sized ∙ sym z) (b .numbered ∙ sym q)
 
 -- ---- the numbers
 module _ (d : Bool) (v n r hd : ℕ) (pos : 0 < n) (eh : hd ≡ ifD d (count d v (n - 1))) (lt : r < count d v n) where
@@ -82,91 +64,21 @@ module _ {d : Bool} {v m r i rest c : ℕ} (f : Falls d v m r i rest) (ec : c �
   pub spot-quot : rest / c < count d v (m - i)
   spot-quot = div-lt-iff-lt-mul spot-pos .1 (rw (ec, mul-comm) (f .fits))
 
--- ---- the bytes
-one-more : (P : List ℕ) (b k : ℕ) → length P ≡ k → length (P ++ (b ∷ [])) ≡ k + 1
-one-more P b k h = omega (arith, length-append P (b ∷ []))
-
-module _ (old L1 P1 : List ℕ) (a : ℕ) (h1 : L1 ≡ P1 ++ drop a old) (l1 : length P1 ≡ a) (ha : a < length old) where
-  F : List ℕ
-  F = P1 ++ (69 ∷ [])
-
-  lF : length F ≡ a + 1
-  unfolding F
-  lF = one-more P1 69 a l1
-
-  L2-is : set L1 a 69 ≡ F ++ drop (a + 1) old
-  unfolding F
-  L2-is = ap (λ (z : List ℕ). set z a 69) h1 ∙ put-byte P1 old a 69 l1 ha
-
-  L2-length : length (set L1 a 69) ≡ length old
-  L2-length = omega (arith, ap length L2-is, length-append F (drop (a + 1) old), lF, length-drop (a + 1) old)
-
-  part-is : take (length (set L1 a 69) - (a + 1)) (drop (a + 1) (set L1 a 69)) ≡ drop (a + 1) old
-  part-is =
-      tail-part (a + 1) (set L1 a 69) ∙ ap (drop (a + 1)) L2-is ∙ drop-at F (drop (a + 1) old) (a + 1) lF
-
-  module _ (Q P2 : List ℕ) (b : ℕ) (h2 : Q ≡ P2 ++ drop b (take (length (set L1 a 69) - (a + 1)) (drop (a + 1) (set L1 a 69)))) (l2 : length P2 ≡ b) (hb : a + 1 + b < length old) where
-    L3-is : putMid (a + 1) (length (set L1 a 69) - (a + 1)) (set L1 a 69) Q ≡ (F ++ P2) ++ drop (a + 1 + b) old
-    L3-is =
-        let none : drop (length (set L1 a 69) - (a + 1)) (drop (a + 1) (set L1 a 69)) ≡ []
-        = drop-of-length-le (drop (a + 1) (set L1 a 69)) {i = length (set L1 a 69) - (a + 1)} (omega (arith, length-drop (a + 1) (set L1 a 69))) in
-        let q : Q ≡ P2 ++ drop (a + 1 + b) old = h2 ∙ ap (λ (z : List ℕ). P2 ++ drop b z) part-is ∙ ap (λ (z : List ℕ). P2 ++ z) (drop-drop b (a + 1) old) in
-        ap₂ (λ (x y : List ℕ). x ++ (Q ++ y)) (ap (take (a + 1)) L2-is ∙ take-at F (drop (a + 1) old) (a + 1) lF) none
-        ∙ ap (λ (z : List ℕ). F ++ z) (append-nil Q ∙ q)
-        ∙ sym (append-assoc F P2 (drop (a + 1 + b) old))
-
-    lP : length (F ++ P2) ≡ a + 1 + b
-    lP = omega (arith, length-append F P2, lF)
-
-    L3-length : length (putMid (a + 1) (length (set L1 a 69) - (a + 1)) (set L1 a 69) Q) ≡ length old
-    L3-length = omega (arith, ap length L3-is, length-append (F ++ P2) (drop (a + 1 + b) old), lP, length-drop (a + 1 + b) old)
-
-    L4-length : length (set (putMid (a + 1) (length (set L1 a 69) - (a + 1)) (set L1 a 69) Q) (a + 1 + b) 78) ≡ length old
-    L4-length = length-set (putMid (a + 1) (length (set L1 a 69) - (a + 1)) (set L1 a 69) Q) (a + 1 + b) 78 ∙ L3-length
-
-    L4-is : set (putMid (a + 1) (length (set L1 a 69) - (a + 1)) (set L1 a 69) Q) (a + 1 + b) 78 ≡ (P1 ++ (69 ∷ (P2 ++ (78 ∷ [])))) ++ drop (a + 1 + b + 1) old
-    unfolding F
-    L4-is =
-        ap (λ (z : List ℕ). set z (a + 1 + b) 78) L3-is ∙ put-byte (F ++ P2) old (a + 1 + b) 78 lP hb
-        ∙ ap (λ (z : List ℕ). z ++ drop (a + 1 + b + 1) old) (append-assoc F P2 (78 ∷ []) ∙ append-snoc P1 69 (P2 ++ (78 ∷ [])))
-
-    L4-long : length (P1 ++ (69 ∷ (P2 ++ (78 ∷ [])))) ≡ a + 1 + b + 1
-    L4-long = omega (arith, length-append P1 (69 ∷ (P2 ++ (78 ∷ []))), length-append P2 (78 ∷ []))
-
-pub written-length : (d : Bool) (v n r : ℕ) (old new : List ℕ) (k : ℕ) → Written d v n r old new k → k ≤ length old → length new ≡ length old
-written-length d v n r old new k m h = omega (arith, ap length (m .shown), length-append (print d v (build d v n n r)) (drop k old), m .long, length-drop k old)
-
-pub written-dee : (d : Bool) (v n r : ℕ) (old new : List ℕ) (k : ℕ) → 0 < n → T d → r < count d v (n - 1) → r < count d v n → Written d v (n - 1) r old new k → k < length old
-    → Written d v n r old (set new k 68) (k + 1)
+-- ---- the trees
+tree-dee : (d : Bool) (v n r : ℕ) (pos : 0 < n) (p : T d) → r < count d v (n - 1) → r < count d v n
+    → print d v (build d v n n r) ≡ print d v (build d v (n - 1) (n - 1) r) ++ (68 ∷ [])
 unfolding size number print
-written-dee d v n r old new k pos p lt ltn m h =
+tree-dee d v n r pos p lt ltn =
     let t = build d v (n - 1) (n - 1) r in
     let b = build-built d v (n - 1) (n - 1) r (omega arith) lt in
-    written-is d v n r old (set new k 68) (k + 1) (dee p t) (omega (arith, b .sized)) (b .numbered) ltn
-    (ap (λ (z : List ℕ). set z k 68) (m .shown) ∙ put-byte (print d v t) old k 68 (m .long) h)
-    (one-more (print d v t) 68 k (m .long))
+    ap (print d v) (built-is d v n r (dee p t) (omega (arith, b .sized)) (b .numbered) ltn)
 
-module _ {d : Bool} {v r : ℕ} {old new : List ℕ} {k : ℕ} (n : ℕ) (pos : 0 < n) (room : n + n ≤ length old) (p : Written d v (n - 1) r old new k) where
-  pub dee-room : k < length old
-  dee-room = omega (arith, p .short)
-
-  pub dee-length : length new ≡ length old
-  dee-length = written-length d v (n - 1) r old new k p (omega (arith, dee-room))
-
-  pub dee-in : k < length new
-  dee-in = omega (arith, dee-room, dee-length)
-
-  pub dee-fits : n ≤ 64 → k + 1 < 2 ^ 64
-  dee-fits h = omega (arith, p .short)
-
-pub written-arch : (d : Bool) (v n r hd i rest c x y : ℕ) (old L1 Q : List ℕ) (a b : ℕ) → x ≡ rest % c → y ≡ rest / c → 0 < n → r < count d v n
+tree-arch : (d : Bool) (v n r hd i rest c x y : ℕ) → x ≡ rest % c → y ≡ rest / c → 0 < n → r < count d v n
     → hd ≡ ifD d (count d v (n - 1)) → hd ≤ r → v ≤ n - 1
     → Falls d v (n - 1 - v) (r - hd) i rest → c ≡ count d v i
-    → Written d v i x old L1 a → a < length old
-    → Written d v (n - 1 - v - i) y (take (length (set L1 a 69) - (a + 1)) (drop (a + 1) (set L1 a 69))) Q b → a + 1 + b < length old
-    → Written d v n r old (set (putMid (a + 1) (length (set L1 a 69) - (a + 1)) (set L1 a 69) Q) (a + 1 + b) 78) (a + 1 + b + 1)
+    → print d v (build d v n n r) ≡ print d v (build d v i i x) ++ (69 ∷ (print d v (build d v (n - 1 - v - i) (n - 1 - v - i) y) ++ (78 ∷ [])))
 unfolding size print
-written-arch d v n r hd i rest c x y old L1 Q a b ex ey pos lt eh le w f ec p ha q hb =
+tree-arch d v n r hd i rest c x y ex ey pos lt eh le w f ec =
     let j : ℕ = n - 1 - v - i in
     let t = build d v i i x in
     let u = build d v j j y in
@@ -177,57 +89,131 @@ written-arch d v n r hd i rest c x y old L1 Q a b ex ey pos lt eh le w f ec p ha
     let z : c * y ≡ count d v i * y = ap (λ (z : ℕ). z * y) ec in
     let k = rw g at (number-arch d v t u (n - 1 - v) i x y m (bt .sized) (bt .numbered) (bu .numbered)) in
     let o : x + c * y ≡ rest = rw (ex, ey) (mod-add-div rest c) in
-    written-is d v n r old _ (a + 1 + b + 1) (arch t u) (omega arith) (omega (arith, k, f .adds)) lt
-    (L4-is old L1 (print d v t) a (p .shown) (p .long) ha Q (print d v u) b (q .shown) (q .long) hb)
-    (L4-long old L1 (print d v t) a (p .shown) (p .long) ha Q (print d v u) b (q .shown) (q .long) hb)
+    ap (print d v) (built-is d v n r (arch t u) (omega arith) (omega (arith, k, f .adds)) lt)
 
--- what the code asks between its two calls and after them, in one place and with no search where it is cited
-pub record Rooms (n : ℕ) (old L1 Q : List ℕ) (a b : ℕ) : Type 0 where
-  pub short : a + 1 + b + 1 ≤ n + n
-  pub inside : a + 1 + b < length (putMid (a + 1) (length (set L1 a 69) - (a + 1)) (set L1 a 69) Q)
-  pub kept : length (set (putMid (a + 1) (length (set L1 a 69) - (a + 1)) (set L1 a 69) Q) (a + 1 + b) 78) ≡ length old
+long-least : (d : Bool) (v n r : ℕ) → r < count d v n → length (print d v (build d v n n r)) ≤ n + n
+long-least d v n r lt =
+    let b = build-built d v n n r (omega arith) lt in
+    omega (arith, print-length d v (build d v n n r), b .sized)
 
-module _ {d : Bool} {v i x : ℕ} {old L1 : List ℕ} {a : ℕ} (n : ℕ) (pos : 0 < n) (w : v ≤ n - 1) (room : n + n ≤ length old) (le : i ≤ n - 1 - v) (p : Written d v i x old L1 a) where
-  pub first-room : a + 2 ≤ length old
-  first-room = omega (arith, p .short)
+-- ---- the bytes
+-- what stands from a stored byte on
+from-set : (l : List ℕ) (k b : ℕ) → k < length l → drop k (set l k b) ≡ b ∷ drop (k + 1) l
+from-set l k b h =
+    let s : suc k ≡ k + 1 = omega arith in
+    ap (drop k) (set-split l k b h) ∙ drop-at (take k l) (b ∷ drop (suc k) l) k (length-take-le k l (omega arith)) ∙ ap (λ (z : ℕ). b ∷ drop z l) s
 
-  pub first-length : length (set L1 a 69) ≡ length old
-  first-length = L2-length old L1 (print d v (build d v i i x)) a (p .shown) (p .long) (omega (arith, first-room))
+-- and from one that is stored before T
+before-set : (l T : List ℕ) (k b : ℕ) → 0 < k → k ≤ length l → drop k l ≡ T → drop (k - 1) (set l (k - 1) b) ≡ b ∷ T
+before-set l T k b h g e =
+    let back : k - 1 + 1 ≡ k = omega arith in
+    from-set l (k - 1) b (omega arith) ∙ ap (λ (z : List ℕ). b ∷ z) (ap (λ (z : ℕ). drop z l) back ∙ e)
 
-  pub first-before : a < length old
-  first-before = omega (arith, first-room)
+-- the letters around an arch's inside, before what is behind it
+seam : (E F R : List ℕ) → (E ++ (69 ∷ (F ++ (78 ∷ [])))) ++ R ≡ E ++ (69 ∷ (F ++ (78 ∷ R)))
+seam E F R = append-assoc E (69 ∷ (F ++ (78 ∷ []))) R ∙ ap (λ (z : List ℕ). E ++ (69 ∷ z)) (append-snoc F 78 R)
 
-  pub first-in : a < length L1
-  first-in = omega (arith, first-room, first-length, length-set L1 a 69)
+pub spelt-none : (d : Bool) (v n r : ℕ) (l : List ℕ) (end : ℕ) → n ≡ 0 → Spelt d v n r l l end end
+unfolding print build
+spelt-none d v n r l end e = record {
+  kept = refl;
+  shown = rw e refl;
+  long = rw e (omega arith);
+}
 
-  pub first-to : a + 1 ≤ length (set L1 a 69)
-  first-to = omega (arith, first-room, first-length)
+spelt-length : (d : Bool) (v n r : ℕ) (old new : List ℕ) (end k : ℕ) → Spelt d v n r old new end k → end ≤ length old → length new ≡ length old
+spelt-length d v n r old new end k s h =
+    omega (
+      arith,
+      s .long,
+      ap length (take-append-drop k new),
+      length-append (take k new) (drop k new),
+      ap length (s .kept),
+      length-take-le k old (omega (arith, s .long)),
+      ap length (s .shown),
+      length-append (print d v (build d v n n r)) (drop end old),
+      length-drop end old,
+    )
 
-  pub first-fits : n ≤ 64 → a + 1 < 2 ^ 64
-  first-fits h = omega (arith, p .short)
+-- after a byte is stored, and a path is spelt before it
+pub spelt-before : {d : Bool} {v n r : ℕ} {new : List ℕ} {k : ℕ} (old : List ℕ) (last b : ℕ) → length old ≡ 128 → last < 128 → Spelt d v n r (set old last b) new last k → length new ≡ 128
+spelt-before {d} {v} {n} {r} {new} {k} old last b e h s =
+    let g = length-set old last b in
+    spelt-length d v n r (set old last b) new last k s (omega arith) ∙ g ∙ e
 
-  part-length : length (take (length (set L1 a 69) - (a + 1)) (drop (a + 1) (set L1 a 69))) ≡ length old - (a + 1)
-  part-length = ap length (part-is old L1 (print d v (build d v i i x)) a (p .shown) (p .long) (omega (arith, first-room))) ∙ length-drop (a + 1) old
+module _ (d : Bool) (v n r : ℕ) (old : List ℕ) (last : ℕ) (pos : 0 < n) (ltn : r < count d v n) (here : last < length old) where
+  pub spelt-dee : (new : List ℕ) (k : ℕ) → T d → r < count d v (n - 1) → Spelt d v (n - 1) r (set old last 68) new last k → Spelt d v n r old new (last + 1) k
+  spelt-dee new k p lt s =
+      let e = tree-dee d v n r pos p lt ltn in
+      let E = print d v (build d v (n - 1) (n - 1) r) in
+      record {
+        kept = s .kept ∙ take-set-le k old last 68 (omega (arith, s .long));
+        shown =
+            s .shown ∙ ap (λ (z : List ℕ). E ++ z) (from-set old last 68 here) ∙ sym (append-snoc E 68 (drop (last + 1) old))
+            ∙ ap (λ (z : List ℕ). z ++ drop (last + 1) old) (sym e);
+        long = omega (arith, s .long, ap length e, length-append E (68 ∷ []));
+      }
 
-  pub part-room : (n - 1 - v - i) + (n - 1 - v - i) ≤ length (take (length (set L1 a 69) - (a + 1)) (drop (a + 1) (set L1 a 69)))
-  part-room = omega (arith, part-length, p .short)
-
-  module _ {y : ℕ} {Q : List ℕ} {b : ℕ} (q : Written d v (n - 1 - v - i) y (take (length (set L1 a 69) - (a + 1)) (drop (a + 1) (set L1 a 69))) Q b) where
-    second-room : a + 1 + b + 1 ≤ n + n
-    second-room = omega (arith, p .short, q .short)
-
-    pub second-before : a + 1 + b < length old
-    second-before = omega (arith, second-room)
-
-    pub second-fits : n ≤ 64 → (a + 1 + b < 2 ^ 64) × (a + 1 + b + 1 < 2 ^ 64)
-    second-fits h = (omega (arith, second-room), omega (arith, second-room))
-
-    pub rooms : Rooms n old L1 Q a b
-    rooms =
-        let ha : a < length old = omega (arith, first-room) in
-        let hb : a + 1 + b < length old = omega (arith, second-room) in
+  module _ (hd i rest c x y : ℕ) (ex : x ≡ rest % c) (ey : y ≡ rest / c) (eh : hd ≡ ifD d (count d v (n - 1))) (le : hd ≤ r) (w : v ≤ n - 1) (f : Falls d v (n - 1 - v) (r - hd) i rest) (ec : c ≡ count d v i) where
+    pub spelt-arch : (mid new : List ℕ) (k l : ℕ) → 0 < k → Spelt d v (n - 1 - v - i) y (set old last 78) mid last k → Spelt d v i x (set mid (k - 1) 69) new (k - 1) l → Spelt d v n r old new (last + 1) l
+    spelt-arch mid new k l kpos s t =
+        let j : ℕ = n - 1 - v - i in
+        let E = print d v (build d v i i x) in
+        let F = print d v (build d v j j y) in
+        let R : List ℕ = drop (last + 1) old in
+        let e = tree-arch d v n r hd i rest c x y ex ey pos ltn eh le w f ec in
+        let long : length mid ≡ length old = spelt-length d v j y (set old last 78) mid last k s (omega (arith, length-set old last 78)) ∙ length-set old last 78 in
+        let under : take l mid ≡ take l (set old last 78) = sym (take-take l k mid (omega (arith, t .long))) ∙ ap (take l) (s .kept) ∙ take-take l k (set old last 78) (omega (arith, t .long)) in
+        let inner : drop k mid ≡ F ++ (78 ∷ R) = s .shown ∙ ap (λ (z : List ℕ). F ++ z) (from-set old last 78 here) in
+        let outer = before-set mid (F ++ (78 ∷ R)) k 69 kpos (omega (arith, s .long)) inner in
         record {
-          short = second-room;
-          inside = omega (arith, hb, L3-length old L1 (print d v (build d v i i x)) a (p .shown) (p .long) ha Q (print d v (build d v (n - 1 - v - i) (n - 1 - v - i) y)) b (q .shown) (q .long) hb);
-          kept = L4-length old L1 (print d v (build d v i i x)) a (p .shown) (p .long) ha Q (print d v (build d v (n - 1 - v - i) (n - 1 - v - i) y)) b (q .shown) (q .long) hb;
+          kept = t .kept ∙ take-set-le l mid (k - 1) 69 (omega (arith, t .long)) ∙ under ∙ take-set-le l old last 78 (omega (arith, s .long, t .long));
+          shown = t .shown ∙ ap (λ (z : List ℕ). E ++ z) outer ∙ sym (seam E F R) ∙ ap (λ (z : List ℕ). z ++ R) (sym e);
+          long = omega (arith, s .long, t .long, ap length e, length-append E (69 ∷ (F ++ (78 ∷ []))), length-append F (78 ∷ []));
         }
+
+-- what the code asks between an arch's inside and its first part
+pub record Insides (i k : ℕ) : Type 0 where
+  pub some : 0 < k
+  pub room : i + i ≤ k - 1
+  pub under : k - 1 < 128
+
+pub insides : {d : Bool} {v y : ℕ} {old new : List ℕ} {last k : ℕ} (n i : ℕ) → 0 < n → v ≤ n - 1 → i ≤ n - 1 - v → n + n ≤ last + 1 → last < 128 → y < count d v (n - 1 - v - i)
+    → Spelt d v (n - 1 - v - i) y old new last k → Insides i k
+insides {d} {v} {y} n i pos w le room h lt s =
+    let g = long-least d v (n - 1 - v - i) y lt in
+    record { some = omega (arith, s .long); room = omega (arith, s .long); under = omega (arith, s .long) }
+
+-- ---- put to the front of others
+module _ {d : Bool} {v n r : ℕ} {new : List ℕ} {k : ℕ} (s : Spelt d v n r (replicate 128 0) new 128 k) where
+  pub spelt-whole : 128 ≤ length new
+  spelt-whole =
+      let z = length-replicate {A = ℕ} 128 0 in
+      omega (arith, spelt-length d v n r (replicate 128 0) new 128 k s (omega arith))
+
+  part-is : take (128 - k) (drop k new) ≡ print d v (build d v n n r)
+  part-is =
+      let E = print d v (build d v n n r) in
+      let z = length-replicate {A = ℕ} 128 0 in
+      let whole : drop k new ≡ E = s .shown ∙ ap (λ (z : List ℕ). E ++ z) (drop-of-length-le (replicate 128 0) {i = 128} (omega arith)) ∙ append-nil E in
+      ap (take (128 - k)) whole ∙ take-all (128 - k) E (omega (arith, s .long))
+
+  module _ (lt : r < count d v n) (out after : List ℕ) (room : n + n ≤ length out) (x : Built) (p : BuiltAs (written (accepted (take (128 - k) (drop k new))) out) x after) where
+    put-is : BuiltAs (record { answer = accepted (length (print d v (build d v n n r))); output = print d v (build d v n n r) ++ drop (length (print d v (build d v n n r))) out }) x after
+    unfolding written
+    put-is =
+        let fits : length (print d v (build d v n n r)) ≤ length out = omega (arith, long-least d v n r lt) in
+        rw (le-leb (length (print d v (build d v n n r))) (length out) fits) at (rw part-is at p)
+
+    pub put-written : (l : ℕ) → x ≡ Length l → Written d v n r out after l
+    put-written l e =
+        let q = rw e at put-is in
+        let long : l ≡ length (print d v (build d v n n r)) = value-one (q .says) in
+        record {
+          shown = rw long (q .output);
+          long = sym long;
+          short = omega (arith, long-least d v n r lt);
+        }
+
+    pub put-never : (f : ℕ) → x ≡ Refused f → ⊥
+    put-never f e = let q = rw e at put-is in value-not (sym (q .says))

@@ -14,5 +14,5 @@ pub record Table (d : Bool) (v n : ℕ) (l : List ℕ) : Type 0 where
   pub long : n < length l
   pub full : (k : ℕ) → k ≤ n → getD l k 0 ≡ count d v k
   pub fits : count d v n < 2 ^ 64
-  -- the limits are 36, 28 and 45: sums of a few sizes fit
-  pub small : n ≤ 64
+  -- the limits are 36, 28 and 45: a table of 46 is long enough, and sums of a few sizes fit
+  pub small : n ≤ 45

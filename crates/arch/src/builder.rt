@@ -1,9 +1,10 @@
-// The edge of a number: algorithms 4, 8 and 10.
+// The edge of a number, spelt from its last step: algorithms 4, 8 and 10.
+ghost use mathlib.Core.Path.{_≡_};
 ghost use Prim.Native.Nat.{_≤_, _<_, _+_};
 ghost use lib.ListN.{length};
 ghost use Rattle.arches.specs.Counts.{count};
 ghost use Rattle.arch.specs.Table.{Table};
-ghost use Rattle.arch.specs.Answers.{Written};
+ghost use Rattle.arch.specs.Answers.{Spelt, Written};
 use crate::edge::DIAGONAL;
 use crate::edge::EAST;
 use crate::edge::NORTH;
@@ -11,28 +12,44 @@ use crate::sums::d_count;
 use crate::sums::left_over;
 use crate::sums::locate;
 use crate::sums::times;
+use job::Built;
 
-// Writes the edge of number r to the front of out, and says how long it is.
-pub(crate) fn build(out: &mut [u8], table: &[u64], d: bool, v: usize, n: usize, r: u64) -> usize
-    requires { ⌜ Table d v n (now table) × (r < count d v n) × (n + n ≤ length (now out)) ⌝ }
-    ensures { λ k. ⌜ Written d v n r (now (out .entry)) (now (out .exit)) k ⌝ }
+// Spells the path of number r so that it ends before `end`, and says where it begins.
+fn spell(
+    buf: &mut [u8; 128],
+    table: &[u64; 46],
+    d: bool,
+    v: usize,
+    end: usize,
+    n: usize,
+    r: u64,
+) -> usize
+    requires { ⌜ Table d v n (now table) × (r < count d v n) × (n + n ≤ end) × (end ≤ 128) × (length (now buf) ≡ 128) ⌝ }
+    ensures { λ k. ⌜ Spelt d v n r (now (buf .entry)) (now (buf .exit)) end k ⌝ }
 {
     if n == 0 {
-        return 0;
+        return end;
     }
-    ending(out, table, d, v, n, r)
+    ending(buf, table, d, v, end - 1, n, r)
 }
 
-// The same for a path that is not empty: by its last step.
-fn ending(out: &mut [u8], table: &[u64], d: bool, v: usize, n: usize, r: u64) -> usize
-    requires { ⌜ Table d v n (now table) × (r < count d v n) × (n + n ≤ length (now out)) × (0 < n) ⌝ }
-    ensures { λ k. ⌜ Written d v n r (now (out .entry)) (now (out .exit)) k ⌝ }
+// The same for a path that is not empty, whose last step stands at `last`. The first part comes last, so that it is spelt in a loop.
+fn ending(
+    buf: &mut [u8; 128],
+    table: &[u64; 46],
+    d: bool,
+    v: usize,
+    last: usize,
+    n: usize,
+    r: u64,
+) -> usize
+    requires { ⌜ Table d v n (now table) × (r < count d v n) × (n + n ≤ last + 1) × (last < 128) × (length (now buf) ≡ 128) × (0 < n) ⌝ }
+    ensures { λ k. ⌜ Spelt d v n r (now (buf .entry)) (now (buf .exit)) (last + 1) k ⌝ }
 {
     let head = d_count(table, d, v, n, n - 1);
     if r < head {
-        let k = build(out, table, d, v, n - 1, r);
-        out[k] = DIAGONAL;
-        return k + 1;
+        buf[last] = DIAGONAL;
+        return spell(buf, table, d, v, last, n - 1, r);
     }
     let m = n - 1 - v;
     let p = locate(table, d, v, n, m, r - head, table[n] - 1 - r);
@@ -41,11 +58,40 @@ fn ending(out: &mut [u8], table: &[u64], d: bool, v: usize, n: usize, r: u64) ->
     let c = table[i];
     let x = left_over(rest, c);
     let y = times(rest, c);
-    let a = build(out, table, d, v, i, x);
-    out[a] = EAST;
-    let from = a + 1;
-    let b = build(&mut out[from..], table, d, v, m - i, y);
-    let to = from + b;
-    out[to] = NORTH;
-    to + 1
+    buf[last] = NORTH;
+    let east = inside(buf, table, d, v, last, m - i, y) - 1;
+    buf[east] = EAST;
+    spell(buf, table, d, v, east, i, x)
+}
+
+// The inside of an arch: most are empty, and then there is no call.
+fn inside(
+    buf: &mut [u8; 128],
+    table: &[u64; 46],
+    d: bool,
+    v: usize,
+    end: usize,
+    n: usize,
+    r: u64,
+) -> usize
+    requires { ⌜ Table d v n (now table) × (r < count d v n) × (n + n ≤ end) × (end ≤ 128) × (length (now buf) ≡ 128) ⌝ }
+    ensures { λ k. ⌜ Spelt d v n r (now (buf .entry)) (now (buf .exit)) end k ⌝ }
+{
+    if n == 0 {
+        return end;
+    }
+    spell(buf, table, d, v, end, n, r)
+}
+
+// Writes the edge of number r to the front of out, and says how long it is.
+pub(crate) fn build(out: &mut [u8], table: &[u64; 46], d: bool, v: usize, n: usize, r: u64) -> usize
+    requires { ⌜ Table d v n (now table) × (r < count d v n) × (n + n ≤ length (now out)) ⌝ }
+    ensures { λ k. ⌜ Written d v n r (now (out .entry)) (now (out .exit)) k ⌝ }
+{
+    let mut buf = [0u8; 128];
+    let from = spell(&mut buf, table, d, v, 128, n, r);
+    match job::put(&buf[from..], out) {
+        Built::Length(k) => k,
+        Built::Refused(never) => 0, // there is room
+    }
 }

@@ -1,4 +1,5 @@
-// How far the counts fit 64 bits, and the counts of families 4 and 5: document 01's S and M.
+// How far the counts fit 64 bits, and the counts of families 4 and 5: document 01's S and M. All three families lend a table of one
+// length along, as long as the longest.
 ghost use mathlib.Core.Bool.{true};
 ghost use Rattle.arch.specs.Table.{Table};
 
@@ -8,7 +9,7 @@ pub(crate) const SCHRODER_LIMIT: usize = 28;
 
 pub(crate) const MOTZKIN_LIMIT: usize = 45;
 
-const SCHRODER: [u64; 29] = [
+const SCHRODER: [u64; 46] = [
     1,
     2,
     6,
@@ -38,6 +39,23 @@ const SCHRODER: [u64; 29] = [
     469286147871837366,
     2588758890960637798,
     14308406109097843626,
+    0,
+    0,
+    0,
+    0,
+    0,
+    0,
+    0,
+    0,
+    0,
+    0,
+    0,
+    0,
+    0,
+    0,
+    0,
+    0,
+    0,
 ];
 
 const MOTZKIN: [u64; 46] = [
@@ -90,7 +108,7 @@ const MOTZKIN: [u64; 46] = [
 ];
 
 // S(0), S(1), .., S(28), to lend along.
-pub(crate) fn schroder_counts() -> [u64; 29]
+pub(crate) fn schroder_counts() -> [u64; 46]
     ensures { λ r. ⌜ Table true 0 28 r ⌝ }
 {
     SCHRODER

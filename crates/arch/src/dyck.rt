@@ -8,7 +8,7 @@ ghost use Rattle.arch.specs.Memo.{Good, Kept};
 
 // C(n) of a part, with what is known so far lent along: what is known is not worked out again. Only count_memo calls this, so
 // that it is compiled to a test there, and a call is made for what is not known.
-fn part_count(memo: &mut [u64; 37], n: usize) -> u64
+fn part_count(memo: &mut [u64; 46], n: usize) -> u64
     requires { ⌜ (n ≤ 36) × Good (now memo) ⌝ }
     ensures { λ r. ⌜ (r ≡ count false 0 n) × Good (now (memo .exit)) × Kept (now (memo .entry)) (now (memo .exit)) ⌝ }
 {
@@ -21,7 +21,7 @@ fn part_count(memo: &mut [u64; 37], n: usize) -> u64
 
 // C(n), worked out from the counts of an arch's two parts, and kept. The products for i and n - 1 - i are equal, so half of them
 // are worked out: the middle ones first, so that the calls stay few deep.
-fn count_memo(memo: &mut [u64; 37], n: usize) -> u64
+fn count_memo(memo: &mut [u64; 46], n: usize) -> u64
     requires { ⌜ (n ≤ 36) × Good (now memo) ⌝ }
     ensures { λ r. ⌜ (r ≡ count false 0 n) × Good (now (memo .exit)) × Kept (now (memo .entry)) (now (memo .exit)) ⌝ }
 {
@@ -54,16 +54,16 @@ pub(crate) fn dyck_count(n: usize) -> u64
     requires { ⌜ n ≤ 36 ⌝ }
     ensures { λ r. ⌜ r ≡ count false 0 n ⌝ }
 {
-    let mut memo: [u64; 37] = [0; 37];
+    let mut memo: [u64; 46] = [0; 46];
     count_memo(&mut memo, n)
 }
 
 // C(0), C(1), .., C(n), to lend along: the memo, with each worked out.
-pub(crate) fn dyck_counts(n: usize) -> [u64; 37]
+pub(crate) fn dyck_counts(n: usize) -> [u64; 46]
     requires { ⌜ n ≤ 36 ⌝ }
     ensures { λ r. ⌜ Table false 0 n r ⌝ }
 {
-    let mut memo: [u64; 37] = [0; 37];
+    let mut memo: [u64; 46] = [0; 46];
     let mut k = 0;
     while k <= n {
         let c = count_memo(&mut memo, k);

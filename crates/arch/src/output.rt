@@ -10,7 +10,7 @@ use job::Built;
 pub(crate) fn write_edges(
     steps: &mut [u8],
     ends: &mut [usize],
-    table: &[u64],
+    table: &[u64; 46],
     d: bool,
     v: usize,
     n: usize,

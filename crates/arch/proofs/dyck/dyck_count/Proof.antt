@@ -5,7 +5,7 @@ use Rattle.arch.proofs.dyck.dyck_count.Statement.{statement}
 use Rattle.arch.proofs.dyck.dyck_count.Tie as tie
 
 count-memo-requires : tie.Need-count-memo-requires
-count-memo-requires c κs = (c .before .pre, good-none 37)
+count-memo-requires c κs = (c .before .pre, good-none 46)
 
 returns : tie.Need-returns
 returns c = search needs

@@ -9,13 +9,13 @@ use Rattle.arch.proofs.dyck.dyck_counts.Statement.{statement}
 use Rattle.arch.proofs.dyck.dyck_counts.Tie as tie
 
 abbrev Inv-loop : tie.InvT-loop
-Inv-loop n memo₀ k₀ memo k = (k ≤ n + 1) × Good memo × (length memo ≡ 37) × Filled k memo
+Inv-loop n memo₀ k₀ memo k = (k ≤ n + 1) × Good memo × (length memo ≡ 46) × Filled k memo
 
 abbrev μ-loop : tie.MeasureT-loop
 μ-loop n memo₀ k₀ memo k = n + 1 - k
 
 loop-holds : tie.Need-loop-holds Inv-loop μ-loop
-loop-holds c = (omega arith, good-none 37, refl, filled-none (replicate 37 0))
+loop-holds c = (omega arith, good-none 46, refl, filled-none (replicate 46 0))
 
 count-memo-requires : tie.Need-count-memo-requires Inv-loop μ-loop
 count-memo-requires c κs = (omega arith, c .before .before .loop .inv .1)

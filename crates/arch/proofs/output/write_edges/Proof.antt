@@ -11,7 +11,7 @@ use Rattle.rules.specs.Questions.{allBelow}
 use Rattle.rules.proofs.Belows.{below-at}
 use Rattle.lines.proofs.Lining.{Lining, lining-none, lining-room, lining-part}
 use Rattle.arch.specs.Calls.{edgeBy}
-use Rattle.arch.proofs.Sizes.{more-le, left-one, byte-fits, next-fits, edge-fits, twice-most, twice-le, in-as-many}
+use Rattle.arch.proofs.Sizes.{more-le, left-one, in-table, byte-fits, next-fits, edge-fits, twice-most, twice-le, in-as-many}
 use Rattle.arch.proofs.Lined.{all-told, none-lined, next-lined, all-lined}
 use borrow.Author.Needs.{needs}
 use Rattle.arch.proofs.output.write_edges.Statement.{statement}
@@ -24,64 +24,84 @@ abbrev μ-loop : tie.MeasureT-loop
 μ-loop steps₀ ends₀ table d v n numbers at₀ i₀ steps ends at i = length numbers - i
 
 mul-all-below : tie.Need-mul-all-below Inv-loop μ-loop
-mul-all-below c = record { fits = byte-fits _ _ (le-refl _) (c .before .before .before .before .pre .0 .small) }
+mul-all-below c =
+    record { fits = byte-fits _ _ (le-refl _) (c .before .before .before .pre .0 .small) }
 
-shared-slice-read-all-below : tie.Need-shared-slice-read-all-below Inv-loop μ-loop
-shared-slice-read-all-below c = c .before .before .before .before .before .pre .0 .long
+element-copy-out-all-below : tie.Need-element-copy-out-all-below Inv-loop μ-loop
+element-copy-out-all-below c =
+    in-table _ _ (le-refl _) (c .before .before .before .pre .0 .small)
 
 all-below-requires : tie.Need-all-below-requires Inv-loop μ-loop
-all-below-requires c κs = tt
+all-below-requires c κs =
+    tt
 
 returns : tie.Need-returns Inv-loop μ-loop
-returns c = none-lined (c .before .before .before .before .before .before .before .args .d) (c .before .before .before .before .before .before .before .args .v) (c .before .before .before .before .before .before .before .args .n) (c .before .before .before .before .before .before .before .args .numbers .now) _ _ (sym (all-told (c .before .before .before .before .before .before .before .args .d) (c .before .before .before .before .before .before .before .args .v) (c .before .before .before .before .before .before .before .args .n) (c .before .before .before .before .before .before .before .args .numbers .now) _ _ (c .before .before .before .before .before .before .before .pre .0) (c .before .all-below .ensures)) ∙ not-true _ (c .if1 .taken))
+returns c =
+    none-lined (c .before .before .before .before .before .before .args .d) (c .before .before .before .before .before .before .args .v) (c .before .before .before .before .before .before .args .n) (c .before .before .before .before .before .before .args .numbers .now) _ _ (sym (all-told (c .before .before .before .before .before .before .args .d) (c .before .before .before .before .before .before .args .v) (c .before .before .before .before .before .before .args .n) (c .before .before .before .before .before .before .args .numbers .now) _ _ (c .before .before .before .before .before .before .pre .0) (c .before .all-below .ensures)) ∙ not-true _ (c .if1 .taken))
 
 loop-holds : tie.Need-loop-holds Inv-loop μ-loop
-loop-holds c = (sym (all-told (c .before .before .before .before .before .before .before .args .d) (c .before .before .before .before .before .before .before .args .v) (c .before .before .before .before .before .before .before .args .n) (c .before .before .before .before .before .before .before .args .numbers .now) _ _ (c .before .before .before .before .before .before .before .pre .0) (c .before .all-below .ensures)) ∙ not-false _ (c .if1 .left), lining-none _ _ _ _ (c .before .before .before .before .before .before .before .pre .1))
+loop-holds c =
+    (sym (all-told (c .before .before .before .before .before .before .args .d) (c .before .before .before .before .before .before .args .v) (c .before .before .before .before .before .before .args .n) (c .before .before .before .before .before .before .args .numbers .now) _ _ (c .before .before .before .before .before .before .pre .0) (c .before .all-below .ensures)) ∙ not-false _ (c .if1 .left), lining-none _ _ _ _ (c .before .before .before .before .before .before .pre .1))
 
 sub-build : tie.Need-sub-build Inv-loop μ-loop
-sub-build c = more-le _ 128 _ (lining-room _ _ _ _ _ _ _ _ (c .before .loop .inv .1) (c .loop-test .taken))
+sub-build c =
+    more-le _ 128 _ (lining-room _ _ _ _ _ _ _ _ (c .before .loop .inv .1) (c .loop-test .taken))
 
 part-build-start : tie.Need-part-build-start Inv-loop μ-loop
-part-build-start c = more-le _ 128 _ (lining-room _ _ _ _ _ _ _ _ (c .before .loop .inv .1) (c .loop-test .taken))
+part-build-start c =
+    more-le _ 128 _ (lining-room _ _ _ _ _ _ _ _ (c .before .loop .inv .1) (c .loop-test .taken))
 
 part-build-end : tie.Need-part-build-end Inv-loop μ-loop
-part-build-end c = le-refl _
+part-build-end c =
+    le-refl _
 
 mul-build : tie.Need-mul-build Inv-loop μ-loop
-mul-build c = search needs
+mul-build c =
+    search needs
 
 shared-slice-read-build : tie.Need-shared-slice-read-build Inv-loop μ-loop
-shared-slice-read-build c = c .before .before .loop-test .taken
+shared-slice-read-build c =
+    c .before .before .loop-test .taken
 
 build-requires : tie.Need-build-requires Inv-loop μ-loop
-build-requires c κs = (c .before .before .before .before .before .before .before .before .before .before .before .pre .0, below-at _ _ (holds (c .before .before .before .loop .inv .0)) _ (c .before .before .loop-test .taken), twice-le _ _ (c .before .before .before .before .before .before .before .before .before .before .before .pre .0 .small) ((lining-part _ _ _ _ _ _ _ _ (c .before .before .before .loop .inv .1) (c .before .before .loop-test .taken))))
+build-requires c κs =
+    (c .before .before .before .before .before .before .before .before .before .before .pre .0, below-at _ _ (holds (c .before .before .before .loop .inv .0)) _ (c .before .before .loop-test .taken), twice-le _ _ (c .before .before .before .before .before .before .before .before .before .before .pre .0 .small) ((lining-part _ _ _ _ _ _ _ _ (c .before .before .before .loop .inv .1) (c .before .before .loop-test .taken))))
 
 add-at : tie.Need-add-at Inv-loop μ-loop
-add-at c = record { fits = edge-fits _ _ _ _ _ (lining-room _ _ _ _ _ _ _ _ (c .before .before .before .before .before .before .loop .inv .1) (c .before .before .before .before .before .loop-test .taken)) (c .before .before .build .ensures .short) (c .before .before .before .before .before .before .before .before .before .before .before .before .before .before .pre .0 .small) (c .before .before .before .before .before .before .loop .inv .1 .as-long) (c .before .before .before .before .before .before .before .before .before .before .before .before .before .before .good .0 .0) }
+add-at c =
+    record { fits = edge-fits _ _ _ _ _ (lining-room _ _ _ _ _ _ _ _ (c .before .before .before .before .before .before .loop .inv .1) (c .before .before .before .before .before .loop-test .taken)) (c .before .before .build .ensures .short) (c .before .before .before .before .before .before .before .before .before .before .before .before .before .pre .0 .small) (c .before .before .before .before .before .before .loop .inv .1 .as-long) (c .before .before .before .before .before .before .before .before .before .before .before .before .before .good .0 .0) }
 
 mul-ends : tie.Need-mul-ends Inv-loop μ-loop
-mul-ends c = search needs
+mul-ends c =
+    search needs
 
 slice-write-ends : tie.Need-slice-write-ends Inv-loop μ-loop
-slice-write-ends c = in-as-many _ _ _ _ (c .before .before .before .before .before .loop-test .taken) (c .before .before .before .before .before .before .before .before .before .before .before .before .before .before .pre .1 .for-ends) (c .before .before .before .before .before .before .loop .inv .1 .as-many)
+slice-write-ends c =
+    in-as-many _ _ _ _ (c .before .before .before .before .before .loop-test .taken) (c .before .before .before .before .before .before .before .before .before .before .before .before .before .pre .1 .for-ends) (c .before .before .before .before .before .before .loop .inv .1 .as-many)
 
 add-i : tie.Need-add-i Inv-loop μ-loop
-add-i c = record { fits = next-fits _ _ (c .before .before .before .before .before .loop-test .taken) (c .before .before .before .before .before .before .before .before .before .before .before .before .before .before .good .1 .1 .1 .1 .1 .1 .0 .0) }
+add-i c =
+    record { fits = next-fits _ _ (c .before .before .before .before .before .loop-test .taken) (c .before .before .before .before .before .before .before .before .before .before .before .before .before .good .1 .1 .1 .1 .1 .1 .0 .0) }
 
 loop-less : tie.Need-loop-less Inv-loop μ-loop
-loop-less c = left-one _ _ (c .before .before .before .before .before .loop-test .taken)
+loop-less c =
+    left-one _ _ (c .before .before .before .before .before .loop-test .taken)
 
 loop-again : tie.Need-loop-again Inv-loop μ-loop
-loop-again c = (c .before .before .before .before .before .before .loop .inv .0, next-lined (c .before .before .before .before .before .before .before .before .before .before .before .before .before .before .args .d) (c .before .before .before .before .before .before .before .before .before .before .before .before .before .before .args .v) (c .before .before .before .before .before .before .before .before .before .before .before .before .before .before .args .n) (c .before .before .before .before .before .before .before .before .before .before .before .before .before .before .args .numbers .now) _ _ _ _ _ _ (c .before .before .before .before .before .before .loop .inv .1) _ _ (c .before .before .before .before .before .loop-test .taken) (twice-most _ (c .before .before .before .before .before .before .before .before .before .before .before .before .before .before .pre .0 .small)) (c .before .before .build .ensures))
+loop-again c =
+    (c .before .before .before .before .before .before .loop .inv .0, next-lined (c .before .before .before .before .before .before .before .before .before .before .before .before .before .args .d) (c .before .before .before .before .before .before .before .before .before .before .before .before .before .args .v) (c .before .before .before .before .before .before .before .before .before .before .before .before .before .args .n) (c .before .before .before .before .before .before .before .before .before .before .before .before .before .args .numbers .now) _ _ _ _ _ _ (c .before .before .before .before .before .before .loop .inv .1) _ _ (c .before .before .before .before .before .loop-test .taken) (twice-most _ (c .before .before .before .before .before .before .before .before .before .before .before .before .before .pre .0 .small)) (c .before .before .build .ensures))
 
 same-length : tie.Need-same-length Inv-loop μ-loop
-same-length c = (c .before .loop .inv .1) .as-long
+same-length c =
+    (c .before .loop .inv .1) .as-long
 
 same-length-2 : tie.Need-same-length-2 Inv-loop μ-loop
-same-length-2 c = (c .before .loop .inv .1) .as-many
+same-length-2 c =
+    (c .before .loop .inv .1) .as-many
 
 returns-2 : tie.Need-returns-2 Inv-loop μ-loop
-returns-2 c = all-lined _ _ _ _ _ _ _ _ _ _ (c .before .loop .inv .1) (c .before .loop .inv .0) (c .loop-test .left)
+returns-2 c =
+    all-lined _ _ _ _ _ _ _ _ _ _ (c .before .loop .inv .1) (c .before .loop .inv .0) (c .loop-test .left)
 
 pub write-edges-spec : {M : Type 1} → statement M
 write-edges-spec =
@@ -90,7 +110,7 @@ write-edges-spec =
     Inv-loop
     μ-loop
     mul-all-below
-    shared-slice-read-all-below
+    element-copy-out-all-below
     all-below-requires
     returns
     loop-holds
