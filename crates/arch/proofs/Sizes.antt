@@ -7,17 +7,18 @@
 --   half-le, half-less, half-back  a half, and what is before it
 --   falls-other, falls-less        the measure falls: at a call of the other function by the same size, and at one by less
 --   falls-ending, falls-spell, falls-first, falls-inside    the same where three functions call each other
---   left-less, left-one            what is left of the bytes falls
+--   left-one                       what is left of the bytes falls
 --   room-last, some-end, back-last, last-under    room before the last step
 --   twice-most, twice-le, in-as-many    room for the bytes of an edge, and for one among as many
 --   back-less, back-le             the place before an inside
 --   number-some, number-last       the count is more than a number below it
 --   span-less, first-le, first-less, second-le, second-less    the sizes of an arch's parts
---   part-le, wide-less             the sizes on the way to a point
+--   wide-less                      the sizes of an arch's parts, in the room for it
+--   inside-some, inside-le         what is left of the room for an arch's inside
 --   rest-less, rest-le             what is left of the room for an arch's first part
 --   both-less, both-fits, both-le  the sizes of both parts, in the room
 --   in-table, byte-fits            a place in the table, and in bytes
---   next-fits, sum-fits, east-fits, wide-fits, parts-fit, sum-parts, edge-fits    the sums that the code makes fit
+--   next-fits, sum-fits, wide-fits, parts-fit, sum-parts, edge-fits    the sums that the code makes fit
 use mathlib.Core.Path.{_≡_}
 use mathlib.Core.Logic.{_≢_}
 use Prim.Native.Nat.{ℕ, _+_, _-_, _*_, _/_, _^_, _≤_, _<_}
@@ -73,9 +74,6 @@ module _ (m n t : ℕ) (e : 3 * n ≡ t) (l : m < n) where
 
   pub falls-inside : 3 * m + 2 < t
   falls-inside = omega arith
-
-pub left-less : (k next l : ℕ) → 0 < k → next + k ≤ l → l - (next + k) < l - next
-left-less k next l h g = omega arith
 
 pub left-one : (next l : ℕ) → next < l → l - (next + 1) < l - next
 left-one next l h = omega arith
@@ -133,11 +131,14 @@ second-le i v n = omega arith
 pub second-less : (i v n : ℕ) → 0 < n → n - 1 - v - i < n
 second-less i v n h = omega arith
 
-pub part-le : (x a n : ℕ) → x + a ≤ n → a ≤ n
-part-le x a n l = omega arith
+pub wide-less : (m v n : ℕ) → m + v + 1 ≤ n → m + v < n
+wide-less m v n l = omega arith
 
-pub wide-less : (x m v n : ℕ) → x + (m + v + 1) ≤ n → m + v < n
-wide-less x m v n l = omega arith
+pub inside-some : (v n : ℕ) → v + 1 ≤ n → 1 ≤ n - v
+inside-some v n h = omega arith
+
+pub inside-le : (v n : ℕ) → n - v - 1 ≤ n
+inside-le v n = omega arith
 
 pub rest-less : (j n : ℕ) → 0 < n → n - 1 - j < n
 rest-less j n h = omega arith
@@ -165,14 +166,11 @@ byte-fits i n l h = omega arith
 pub next-fits : (next l : ℕ) → next < l → l < 2 ^ 64 → next + 1 < 2 ^ 64
 next-fits next l h g = omega arith
 
-pub sum-fits : (a n : ℕ) → a ≤ n → n ≤ 45 → (a < 2 ^ 64) × (a + 1 < 2 ^ 64)
-sum-fits a n l h = (omega arith, omega arith)
+pub sum-fits : (a n : ℕ) → a ≤ n → n ≤ 45 → a + 1 < 2 ^ 64
+sum-fits a n l h = omega arith
 
-pub east-fits : (x v n : ℕ) → x ≤ n → n ≤ 45 → v ≤ 1 → (x + v < 2 ^ 64) × (x + v + 1 < 2 ^ 64)
-east-fits x v n l h g = (omega arith, omega arith)
-
-pub wide-fits : (x m v n : ℕ) → x + (m + v + 1) ≤ n → n ≤ 45 → (m < 2 ^ 64) × (m + v < 2 ^ 64) × (m + v + 1 < 2 ^ 64)
-wide-fits x m v n l h = (omega arith, omega arith, omega arith)
+pub wide-fits : (m v n : ℕ) → m + v + 1 ≤ n → n ≤ 45 → (m < 2 ^ 64) × (m + v < 2 ^ 64) × (m + v + 1 < 2 ^ 64)
+wide-fits m v n l h = (omega arith, omega arith, omega arith)
 
 pub parts-fit : (a b c : ℕ) → a + (b + c) < 2 ^ 64 → (c < 2 ^ 64) × (b + c < 2 ^ 64)
 parts-fit a b c h = (omega arith, omega arith)

@@ -1,12 +1,11 @@
 -- Laws of a lent table, and of the products that are made from it: each is a summand of a count that fits. Assumes nothing.
 --
---   family-small                 an arch spans at most 2
 --   table-less                   a table up to n is one up to less
 --   before-none, before-next     the products, none of them and one more
 --   term-is, terms-fit           a product from the table, and the products up to and with it fit
 --   ifD-is                       the count of those that end in `D`, by the test on d
 use mathlib.Core.Path.{_≡_, refl, ap₂}
-use mathlib.Core.Bool.{Bool, true, false}
+use mathlib.Core.Bool.{Bool, true}
 use mathlib.Core.List.{List}
 use Prim.Native.Nat.{ℕ, suc, _+_, _-_, _*_, _^_, _≤_, _<_}
 use native.Mathlib.Omega.{arith}
@@ -14,12 +13,8 @@ use lib.ListN.{getD}
 use Rattle.howmany.specs.Sum.{sum}
 use Rattle.arches.specs.Counts.{ifD, count, before}
 use Rattle.arches.proofs.Counting.{count-arch, before-suc, before-mono}
-use Rattle.arches.proofs.Limits.{Family, count-mono}
+use Rattle.arches.proofs.Limits.{count-mono}
 use Rattle.arch.specs.Table.{Table}
-
-pub family-small : (d : Bool) (v : ℕ) → Family d v → v ≤ 1
-family-small false v e = omega arith
-family-small true v e = e
 
 pub table-less : (d : Bool) (v n m : ℕ) (l : List ℕ) → m ≤ n → Table d v n l → Table d v m l
 table-less d v n m l h t = record {

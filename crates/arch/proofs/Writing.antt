@@ -7,7 +7,7 @@
 --   spelt-before                      as many bytes as there were
 --   Insides, insides                  what the code asks between an arch's inside and its first part
 --   spelt-whole, put-written, put-never    the spelt bytes, put to the front of others: there is room
-use mathlib.Core.Path.{_≡_, refl, sym, ap, ap₂, _∙_}
+use mathlib.Core.Path.{_≡_, refl, sym, ap, _∙_}
 use mathlib.Core.Bool.{Bool}
 use mathlib.Core.List.{List, [], _∷_, _++_, append-nil, append-assoc}
 use Prim.Native.Nat.{ℕ, suc, _+_, _-_, _*_, _/_, _%_, _≤_, _<_}

@@ -1,8 +1,8 @@
-// The number of any string of bytes, read once from its first step: the path reader calls the arch reader, which calls the path
-// reader on the inside. Algorithms 7 and 9, with validity tested while reading.
-ghost use Prim.Native.Nat.{_≤_, _<_, _+_};
-ghost use mathlib.Core.Path.{_≡_};
-ghost use lib.ListN.{length, getD};
+// The number of any string of bytes as a path of family 4 or 5, read once from its first step: the path reader calls the arch reader,
+// which calls the path reader on the inside. Algorithms 7 and 9, with validity tested while reading.
+ghost use mathlib.Core.Bool.{true};
+ghost use Prim.Native.Nat.{_≤_};
+ghost use lib.ListN.{length};
 ghost use Rattle.arch.specs.Table.{Table};
 ghost use Rattle.arch.specs.Answers.{Numbered};
 ghost use Rattle.arch.specs.Reading.{PathGot, ArchGot};
@@ -13,7 +13,7 @@ use crate::edge::NO_EDGE;
 use crate::edge::NORTH;
 use crate::sums::lower;
 
-// What is read: where it ends, and its size and number.
+// What is read: where in s it ends, and its size and number.
 struct Part {
     good: bool,
     next: usize,
@@ -28,33 +28,31 @@ const NO_PATH: Part = Part {
     number: 0,
 };
 
-// Reads as many steps of s as make a path, from a point with this x; not good if no walk to (n, n) goes on by s.
-fn read_path(s: &[u8], table: &[u64], d: bool, v: usize, n: usize, x: usize) -> Part
-    requires { ⌜ Table d v n (now table) × (x ≤ n) ⌝ }
-    ensures { λ r. ⌜ PathGot (r .good) d v n x (now (s .entry)) (r .next) (r .size) (r .number) ⌝ }
+// Reads the longest path that begins at the place `from` of s, of a size up to room; not good if no walk to the diagonal, room further,
+// goes by s from there.
+fn read_path(s: &[u8], table: &[u64], v: usize, from: usize, room: usize) -> Part
+    requires { ⌜ Table true v room (now table) × (from ≤ length (now s)) ⌝ }
+    ensures { λ r. ⌜ PathGot (r .good) v room (now (s .entry)) from (r .next) (r .size) (r .number) ⌝ }
 {
-    let mut next: usize = 0;
+    let mut next: usize = from;
     let mut size: usize = 0;
     let mut number: u64 = 0;
     while next < s.len() {
         let b = s[next];
         if b == EAST {
-            let p = read_arch(&s[next..], table, d, v, n, x + size);
+            let p = read_arch(s, table, v, next + 1, room - size);
             if !p.good {
                 return NO_PATH;
             }
             let m = size + p.size;
-            number = lower(table, d, v, n, m, size) + (number + table[size] * p.number);
+            number = lower(table, true, v, room, m, size) + (number + table[size] * p.number);
             size = m + v + 1;
-            next += p.next;
+            next = p.next;
         } else {
             if b != DIAGONAL {
                 break;
             }
-            if !d {
-                return NO_PATH;
-            }
-            if n < x + size + 1 {
+            if size == room {
                 return NO_PATH;
             }
             next += 1;
@@ -69,19 +67,30 @@ fn read_path(s: &[u8], table: &[u64], d: bool, v: usize, n: usize, x: usize) -> 
     }
 }
 
-// Reads `E`, a path and `N`: the size and the number are the inside's.
-fn read_arch(s: &[u8], table: &[u64], d: bool, v: usize, n: usize, x: usize) -> Part
-    requires { ⌜ Table d v n (now table) × (x ≤ n) × (0 < length (now s)) × (getD (now s) 0 0 ≡ 69) ⌝ }
-    ensures { λ r. ⌜ ArchGot (r .good) d v n x (now (s .entry)) (r .next) (r .size) (r .number) ⌝ }
+// Reads what follows an `E`, a path and `N`, where the arch spans up to room: the size and the number are the inside's. An empty
+// inside is answered without a call.
+fn read_arch(s: &[u8], table: &[u64], v: usize, from: usize, room: usize) -> Part
+    requires { ⌜ Table true v room (now table) × (from ≤ length (now s)) ⌝ }
+    ensures { λ r. ⌜ ArchGot (r .good) v room (now (s .entry)) from (r .next) (r .size) (r .number) ⌝ }
 {
-    if n < x + v + 1 {
+    if room < v + 1 {
         return NO_PATH;
     }
-    let p = read_path(&s[1..], table, d, v, n, x + v + 1);
+    if from < s.len() {
+        if s[from] == NORTH {
+            return Part {
+                good: true,
+                next: from + 1,
+                size: 0,
+                number: 0,
+            };
+        }
+    }
+    let p = read_path(s, table, v, from, room - v - 1);
     if !p.good {
         return NO_PATH;
     }
-    let e = p.next + 1;
+    let e = p.next;
     if s.len() <= e {
         return NO_PATH;
     }
@@ -97,11 +106,11 @@ fn read_arch(s: &[u8], table: &[u64], d: bool, v: usize, n: usize, x: usize) -> 
 }
 
 // The number of the edge s, or that it is none.
-pub(crate) fn number(s: &[u8], table: &[u64], d: bool, v: usize, n: usize) -> Answer
-    requires { ⌜ Table d v n (now table) ⌝ }
-    ensures { λ r. ⌜ Numbered (r .good) d v n (r .number) (now (s .entry)) ⌝ }
+pub(crate) fn number(s: &[u8], table: &[u64], v: usize, n: usize) -> Answer
+    requires { ⌜ Table true v n (now table) ⌝ }
+    ensures { λ r. ⌜ Numbered (r .good) true v n (r .number) (now (s .entry)) ⌝ }
 {
-    let p = read_path(s, table, d, v, n, 0);
+    let p = read_path(s, table, v, 0, n);
     if !p.good {
         return NO_EDGE;
     }

@@ -60,11 +60,11 @@ pub fn number(block: &[u8], edge: &[u8]) -> Numbered
         }
         Known::Schroder(n) => {
             let table = counts::schroder_counts();
-            told(forward::number(edge, &table, true, 0, n))
+            told(forward::number(edge, &table, 0, n))
         }
         Known::Motzkin(n) => {
             let table = counts::motzkin_counts();
-            told(forward::number(edge, &table, true, 1, n))
+            told(forward::number(edge, &table, 1, n))
         }
         Known::Refused(r) => Numbered::Refused(r),
     }

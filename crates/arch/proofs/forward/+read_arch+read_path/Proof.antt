@@ -1,12 +1,16 @@
--- The loop of the path reader knows the tree that is read so far. The bytes that are left fall.
-use mathlib.Core.Path.{_∙_}
-use native.Mathlib.Nat.{le-refl, le-of-lt, lt-of-le-of-lt}
-use lib.ListN.{length, getD, take, drop}
-use Rattle.arch.proofs.Sizes.{byte-fits, left-less, left-one, next-fits, sum-fits, east-fits, wide-fits, parts-fit, part-le, wide-less, le-more}
-use Rattle.arch.proofs.Tables.{family-small}
-use Rattle.arch.proofs.Reading.{tail-some, tail-falls, inside-falls, part-byte, path-good, path-bad, arch-good, arch-bad, Sofar, sofar-start, no-diagonal, no-room, with-dee, no-arch, moves, wide, with-arch, arch-fits, ends-over, ends-here}
-use Rattle.arch.proofs.Reading.{no-east, no-inside, inside-short, no-end, no-north, arch-ok}
-use Prim.Native.Nat.{ℕ, _+_, _-_, _*_, _<_}
+-- The loop of the path reader knows the tree that is read so far. The bytes that are left fall at each call of the arch reader, which
+-- hands on as many as it has. Assumes nothing.
+use mathlib.Core.Bool.{true}
+use native.Mathlib.Nat.{lt-of-le-of-lt, sub-le}
+use native.Mathlib.Numerals.{add-one-le}
+use lib.Dec.{lit≤}
+use lib.ListN.{length, getD}
+use Rattle.arch.specs.Reading.{Begun, PathRead, ArchRead}
+use Rattle.arch.proofs.Sizes.{le-more, more-le, falls-other, falls-less, left-one, wide-less, inside-some, inside-le, byte-fits, next-fits, sum-fits, wide-fits, parts-fit}
+use Rattle.arch.proofs.Tables.{table-less}
+use Rattle.arch.proofs.Reading.{path-good, path-bad, arch-good, arch-bad, begun-start, begun-fits, moves, wide, no-room, with-dee, arch-falls, no-arch, with-arch, ends-over, ends-here}
+use Rattle.arch.proofs.Reading.{no-east, no-inside, no-end, no-north, arch-read}
+use Prim.Native.Nat.{ℕ, _+_, _-_, _*_, _≤_, _<_}
 use borrow.Fn.Kinds.{In}
 use borrow.Fn.PlainCycle.{Measures, is, falls, and}
 use Rattle.arch.proofs.forward.read_arch.Reads as read-arch
@@ -20,10 +24,10 @@ use Rattle.arch.proofs.forward.+read_arch+read_path.{statement}
 use Rattle.arch.proofs.forward.+read_arch+read_path.Tie.{close}
 
 abbrev μ-read-arch : Measures 2 read-arch-kinds.ps ℕ
-μ-read-arch κs a = 2 * length (a .0 .now)
+μ-read-arch κs a = 2 * (length (a .0 .now) - a .1 .1 .1 .0) + 1
 
 abbrev μ-read-path : Measures 2 read-path-kinds.ps ℕ
-μ-read-path κs a = 2 * length (a .0 .now) + 1
+μ-read-path κs a = 2 * (length (a .0 .now) - a .1 .1 .1 .0)
 
 abbrev read-arch-at : ℕ → In 2 read-arch-kinds.ps
 read-arch-at t = and 2 read-arch-kinds.ps (is 2 read-arch-kinds.ps μ-read-arch t) read-arch.Pre
@@ -43,76 +47,26 @@ read-arch-add-if1 :
     (t : ℕ) →
     read-arch-lts.Need-add-if1 (read-path-below t, read-path.Post) (read-arch-at t) read-arch.Post
 read-arch-add-if1 t c =
-    let args = c .before .before .args in
-    let pre = c .before .before .pre in
-    record { fits = east-fits _ _ _ (pre .1 .1) (pre .1 .0 .small) (family-small (args .d) (args .v) (pre .1 .0 .family)) .0 }
-
-read-arch-add-if1-2 :
-    (t : ℕ) →
-    read-arch-lts.Need-add-if1-2
-    (read-path-below t, read-path.Post)
-    (read-arch-at t)
-    read-arch.Post
-read-arch-add-if1-2 t c =
-    let args = c .before .before .args in
-    let pre = c .before .before .pre in
-    record { fits = east-fits _ _ _ (pre .1 .1) (pre .1 .0 .small) (family-small (args .d) (args .v) (pre .1 .0 .family)) .1 }
+    record { fits = sum-fits _ 1 (c .before .before .pre .1 .0 .family) (lit≤ tt) }
 
 read-arch-returns :
     (t : ℕ) →
     read-arch-lts.Need-returns (read-path-below t, read-path.Post) (read-arch-at t) read-arch.Post
 read-arch-returns t c =
-    let args = c .before .before .before .args in
-    let pre = c .before .before .before .pre in
-    no-east (args .d) (args .v) (args .n) (args .x) (args .s .now) (pre .1 .2) (pre .1 .3) (c .if1 .taken)
+    no-east _ _ _ (c .if1 .taken)
 
-read-arch-sub-read-path : (t : ℕ) → read-arch-lts.Need-sub-read-path (
+read-arch-shared-slice-read-if3 : (t : ℕ) → read-arch-lts.Need-shared-slice-read-if3 (
   read-path-below t,
   read-path.Post,
 ) (read-arch-at t) read-arch.Post
-read-arch-sub-read-path t c =
-    c .before .before .before .pre .1 .2
+read-arch-shared-slice-read-if3 t c =
+    c .before .if2 .taken
 
-read-arch-part-read-path-start : (t : ℕ) → read-arch-lts.Need-part-read-path-start (
-  read-path-below t,
-  read-path.Post,
-) (read-arch-at t) read-arch.Post
-read-arch-part-read-path-start t c =
-    c .before .before .before .pre .1 .2
-
-read-arch-part-read-path-end : (t : ℕ) → read-arch-lts.Need-part-read-path-end (
-  read-path-below t,
-  read-path.Post,
-) (read-arch-at t) read-arch.Post
-read-arch-part-read-path-end t c =
-    le-refl _
-
-read-arch-add-read-path : (t : ℕ) → read-arch-lts.Need-add-read-path (
-  read-path-below t,
-  read-path.Post,
-) (read-arch-at t) read-arch.Post
-read-arch-add-read-path t c =
-    let args = c .before .before .before .before .args in
-    let pre = c .before .before .before .before .pre in
-    record { fits = east-fits _ _ _ (pre .1 .1) (pre .1 .0 .small) (family-small (args .d) (args .v) (pre .1 .0 .family)) .0 }
-
-read-arch-add-read-path-2 : (t : ℕ) → read-arch-lts.Need-add-read-path-2 (
-  read-path-below t,
-  read-path.Post,
-) (read-arch-at t) read-arch.Post
-read-arch-add-read-path-2 t c =
-    let args = c .before .before .before .before .args in
-    let pre = c .before .before .before .before .pre in
-    record { fits = east-fits _ _ _ (pre .1 .1) (pre .1 .0 .small) (family-small (args .d) (args .v) (pre .1 .0 .family)) .1 }
-
-read-arch-read-path-requires : (t : ℕ) → read-arch-lts.Need-read-path-requires (
-  read-path-below t,
-  read-path.Post,
-) (read-arch-at t) read-arch.Post
-read-arch-read-path-requires t c κs =
-    let args = c .before .before .before .before .args in
-    let pre = c .before .before .before .before .pre in
-    (inside-falls (args .s .now) _ (pre .0) (pre .1 .2), (pre .1 .0, c .before .if1 .left))
+read-arch-add-t13 :
+    (t : ℕ) →
+    read-arch-lts.Need-add-t13 (read-path-below t, read-path.Post) (read-arch-at t) read-arch.Post
+read-arch-add-t13 t c =
+    record { fits = next-fits _ _ (c .before .before .if2 .taken) (c .before .before .before .before .before .before .good .0 .0) }
 
 read-arch-returns-2 :
     (t : ℕ) →
@@ -121,20 +75,28 @@ read-arch-returns-2 :
     (read-arch-at t)
     read-arch.Post
 read-arch-returns-2 t c =
-    let args = c .before .before .before .before .before .before .before .args in
-    let pre = c .before .before .before .before .before .before .before .pre in
-    let read-path = c .before .before .read-path in
-    no-inside (args .d) (args .v) (args .n) (args .x) (args .s .now) (pre .1 .2) (pre .1 .3) (path-bad (args .d) (args .v) (args .n) (args .x + args .v + 1) (take (length (args .s .now) - 1) (drop 1 (args .s .now))) (read-path .result .good) (read-path .result .next) (read-path .result .size) (read-path .result .number) (c .if2 .taken) (read-path .ensures))
+    arch-read (c .before .before .before .if1 .left) (begun-start (c .before .before .before .before .before .before .pre .1 .1)) (c .before .before .if2 .taken) (c .if3 .taken)
 
-read-arch-add-e :
-    (t : ℕ) →
-    read-arch-lts.Need-add-e (read-path-below t, read-path.Post) (read-arch-at t) read-arch.Post
-read-arch-add-e t c =
-    let args = c .before .before .before .before .before .before .before .before .args in
-    let pre = c .before .before .before .before .before .before .before .before .pre in
-    let read-path = c .before .before .before .read-path in
-    let inside = path-good (args .d) (args .v) (args .n) (args .x + args .v + 1) (take (length (args .s .now) - 1) (drop 1 (args .s .now))) (read-path .result .good) (read-path .result .next) (read-path .result .size) (read-path .result .number) (c .before .if2 .left) (read-path .ensures) in
-    record { fits = lt-of-le-of-lt (inside-short (args .d) (args .v) (args .n) (args .x) (args .s .now) (pre .1 .2) (pre .1 .3) inside) (c .before .before .before .before .before .before .before .before .good .0 .0) }
+read-arch-sub-read-path : (t : ℕ) → read-arch-lts.Need-sub-read-path (
+  read-path-below t,
+  read-path.Post,
+) (read-arch-at t) read-arch.Post
+read-arch-sub-read-path t c =
+    more-le _ 1 _ (c .before .if1 .left)
+
+read-arch-sub-read-path-2 : (t : ℕ) → read-arch-lts.Need-sub-read-path-2 (
+  read-path-below t,
+  read-path.Post,
+) (read-arch-at t) read-arch.Post
+read-arch-sub-read-path-2 t c =
+    inside-some _ _ (c .before .if1 .left)
+
+read-arch-read-path-requires : (t : ℕ) → read-arch-lts.Need-read-path-requires (
+  read-path-below t,
+  read-path.Post,
+) (read-arch-at t) read-arch.Post
+read-arch-read-path-requires t c κs =
+    (falls-other _ _ (c .before .before .before .before .pre .0), (table-less true _ _ _ _ (inside-le _ _) (c .before .before .before .before .pre .1 .0), c .before .before .before .before .pre .1 .1))
 
 read-arch-returns-3 :
     (t : ℕ) →
@@ -143,18 +105,14 @@ read-arch-returns-3 :
     (read-arch-at t)
     read-arch.Post
 read-arch-returns-3 t c =
-    let args = c .before .before .before .before .before .before .before .before .before .args in
-    let pre = c .before .before .before .before .before .before .before .before .before .pre in
-    let read-path = c .before .before .before .before .read-path in
-    let inside = path-good (args .d) (args .v) (args .n) (args .x + args .v + 1) (take (length (args .s .now) - 1) (drop 1 (args .s .now))) (read-path .result .good) (read-path .result .next) (read-path .result .size) (read-path .result .number) (c .before .before .if2 .left) (read-path .ensures) in
-    no-end (args .d) (args .v) (args .n) (args .x) (args .s .now) (pre .1 .2) (pre .1 .3) inside (c .if3 .taken)
+    no-inside _ _ _ (c .before .before .before .before .if1 .left) (path-bad (c .before .before .read-path .result .good) _ _ _ _ _ _ _ (c .if4 .taken) (c .before .before .read-path .ensures))
 
-read-arch-shared-slice-read-if4 : (t : ℕ) → read-arch-lts.Need-shared-slice-read-if4 (
-  read-path-below t,
-  read-path.Post,
-) (read-arch-at t) read-arch.Post
-read-arch-shared-slice-read-if4 t c =
-    c .before .if3 .left
+-- the inside that is read
+read-arch-inside : (t : ℕ) (c : read-arch-lts.Else4 (read-path-below t, read-path.Post) (read-arch-at t) read-arch.Post) →
+    let args = c .before .before .before .before .before .before .before .args in
+    let got = c .before .before .read-path .result in
+    PathRead (args .v) (args .room - args .v - 1) (args .s .now) (args .from) (got .next) (got .size) (got .number)
+read-arch-inside t c = path-good (c .before .before .read-path .result .good) _ _ _ _ _ _ _ (c .if4 .left) (c .before .before .read-path .ensures)
 
 read-arch-returns-4 :
     (t : ℕ) →
@@ -163,18 +121,14 @@ read-arch-returns-4 :
     (read-arch-at t)
     read-arch.Post
 read-arch-returns-4 t c =
-    let args = c .before .before .before .before .before .before .before .before .before .before .before .args in
-    let pre = c .before .before .before .before .before .before .before .before .before .before .before .pre in
-    let read-path = c .before .before .before .before .before .before .read-path in
-    let if1 = c .before .before .before .before .if2 in
-    let inside = path-good (args .d) (args .v) (args .n) (args .x + args .v + 1) (take (length (args .s .now) - 1) (drop 1 (args .s .now))) (read-path .result .good) (read-path .result .next) (read-path .result .size) (read-path .result .number) (if1 .left) (read-path .ensures) in
-    no-north (args .d) (args .v) (args .n) (args .x) (args .s .now) (pre .1 .2) (pre .1 .3) inside (c .if4 .taken)
+    no-end (read-arch-inside t (c .before)) _ (c .if5 .taken)
 
-read-arch-add-t10 :
-    (t : ℕ) →
-    read-arch-lts.Need-add-t10 (read-path-below t, read-path.Post) (read-arch-at t) read-arch.Post
-read-arch-add-t10 t c =
-    record { fits = next-fits _ _ (c .before .before .if3 .left) (c .before .before .before .before .before .before .before .before .before .before .before .good .0 .0) }
+read-arch-shared-slice-read-if6 : (t : ℕ) → read-arch-lts.Need-shared-slice-read-if6 (
+  read-path-below t,
+  read-path.Post,
+) (read-arch-at t) read-arch.Post
+read-arch-shared-slice-read-if6 t c =
+    c .before .if5 .left
 
 read-arch-returns-5 :
     (t : ℕ) →
@@ -183,18 +137,28 @@ read-arch-returns-5 :
     (read-arch-at t)
     read-arch.Post
 read-arch-returns-5 t c =
-    let args = c .before .before .before .before .before .before .before .before .before .before .before .args in
-    let pre = c .before .before .before .before .before .before .before .before .before .before .before .pre in
-    let read-path = c .before .before .before .before .before .before .read-path in
-    let if1 = c .before .before .before .before .if2 in
-    let inside = path-good (args .d) (args .v) (args .n) (args .x + args .v + 1) (take (length (args .s .now) - 1) (drop 1 (args .s .now))) (read-path .result .good) (read-path .result .next) (read-path .result .size) (read-path .result .number) (if1 .left) (read-path .ensures) in
-    arch-ok (args .d) (args .v) (args .n) (args .x) (args .s .now) (pre .1 .2) (pre .1 .3) inside (c .before .before .if3 .left) (c .if4 .left)
+    no-north (read-arch-inside t (c .before .before .before)) _ (c .if6 .taken)
+
+read-arch-add-t8 :
+    (t : ℕ) →
+    read-arch-lts.Need-add-t8 (read-path-below t, read-path.Post) (read-arch-at t) read-arch.Post
+read-arch-add-t8 t c =
+    record { fits = next-fits _ _ (c .before .before .if5 .left) (c .before .before .before .before .before .before .before .before .before .before .good .0 .0) }
+
+read-arch-returns-6 :
+    (t : ℕ) →
+    read-arch-lts.Need-returns-6
+    (read-path-below t, read-path.Post)
+    (read-arch-at t)
+    read-arch.Post
+read-arch-returns-6 t c =
+    arch-read (c .before .before .before .before .before .before .before .if1 .left) (read-arch-inside t (c .before .before .before) .begun) (c .before .before .if5 .left) (c .if6 .left)
 
 abbrev read-path-Inv-loop : read-path-lts.InvT-loop
-read-path-Inv-loop s table d v n x next₀ size₀ number₀ next size number = Sofar d v n x s next size number
+read-path-Inv-loop s table v from room next₀ size₀ number₀ next size number = Begun v room s from next size number
 
 abbrev read-path-μ-loop : read-path-lts.MeasureT-loop
-read-path-μ-loop s table d v n x next₀ size₀ number₀ next size number = length s - next
+read-path-μ-loop s table v from room next₀ size₀ number₀ next size number = length s - next
 
 read-path-loop-holds : (t : ℕ) → read-path-lts.Need-loop-holds (
   read-arch-below t,
@@ -203,8 +167,7 @@ read-path-loop-holds : (t : ℕ) → read-path-lts.Need-loop-holds (
   lower-reads.Learnt,
 ) (read-path-at t) read-path.Post read-path-Inv-loop read-path-μ-loop
 read-path-loop-holds t c =
-    let args = c .before .before .args in
-    sofar-start (args .d) (args .v) (args .n) (args .x) (args .s .now) (c .before .before .pre .1 .1)
+    begun-start (c .before .before .pre .1 .1)
 
 read-path-shared-slice-read-b : (t : ℕ) → read-path-lts.Need-shared-slice-read-b (
   read-arch-below t,
@@ -215,33 +178,6 @@ read-path-shared-slice-read-b : (t : ℕ) → read-path-lts.Need-shared-slice-re
 read-path-shared-slice-read-b t c =
     c .before .loop-test .taken
 
-read-path-sub-read-arch : (t : ℕ) → read-path-lts.Need-sub-read-arch (
-  read-arch-below t,
-  read-arch.Post,
-  lower-reads.Asked,
-  lower-reads.Learnt,
-) (read-path-at t) read-path.Post read-path-Inv-loop read-path-μ-loop
-read-path-sub-read-arch t c =
-    le-of-lt (c .before .before .loop-test .taken)
-
-read-path-part-read-arch-start : (t : ℕ) → read-path-lts.Need-part-read-arch-start (
-  read-arch-below t,
-  read-arch.Post,
-  lower-reads.Asked,
-  lower-reads.Learnt,
-) (read-path-at t) read-path.Post read-path-Inv-loop read-path-μ-loop
-read-path-part-read-arch-start t c =
-    le-of-lt (c .before .before .loop-test .taken)
-
-read-path-part-read-arch-end : (t : ℕ) → read-path-lts.Need-part-read-arch-end (
-  read-arch-below t,
-  read-arch.Post,
-  lower-reads.Asked,
-  lower-reads.Learnt,
-) (read-path-at t) read-path.Post read-path-Inv-loop read-path-μ-loop
-read-path-part-read-arch-end t c =
-    le-refl _
-
 read-path-add-read-arch : (t : ℕ) → read-path-lts.Need-add-read-arch (
   read-arch-below t,
   read-arch.Post,
@@ -249,9 +185,16 @@ read-path-add-read-arch : (t : ℕ) → read-path-lts.Need-add-read-arch (
   lower-reads.Learnt,
 ) (read-path-at t) read-path.Post read-path-Inv-loop read-path-μ-loop
 read-path-add-read-arch t c =
-    let pre = c .before .before .before .before .before .before .before .pre in
-    let loop = c .before .before .before .before .loop in
-    record { fits = sum-fits _ _ (loop .inv .room) (pre .1 .0 .small) .0 }
+    record { fits = next-fits _ _ (c .before .before .loop-test .taken) (c .before .before .before .before .before .before .good .0 .0) }
+
+read-path-sub-read-arch : (t : ℕ) → read-path-lts.Need-sub-read-arch (
+  read-arch-below t,
+  read-arch.Post,
+  lower-reads.Asked,
+  lower-reads.Learnt,
+) (read-path-at t) read-path.Post read-path-Inv-loop read-path-μ-loop
+read-path-sub-read-arch t c =
+    c .before .before .before .loop .inv .fits
 
 read-path-read-arch-requires : (t : ℕ) → read-path-lts.Need-read-arch-requires (
   read-arch-below t,
@@ -260,10 +203,7 @@ read-path-read-arch-requires : (t : ℕ) → read-path-lts.Need-read-arch-requir
   lower-reads.Learnt,
 ) (read-path-at t) read-path.Post read-path-Inv-loop read-path-μ-loop
 read-path-read-arch-requires t c κs =
-    let args = c .before .before .before .before .before .before .before .args in
-    let pre = c .before .before .before .before .before .before .before .pre in
-    let loop = c .before .before .before .before .loop in
-    (tail-falls (loop .next) (args .s .now) _ (pre .0), (pre .1 .0, loop .inv .room, tail-some (loop .next) (args .s .now) (c .before .before .before .loop-test .taken), part-byte (args .s .now) (loop .next) ∙ c .before .if1 .taken))
+    (falls-less _ _ _ (c .before .before .before .before .before .before .pre .0) (arch-falls (c .before .before .before .loop .inv) (c .before .before .loop-test .taken)), (table-less true _ _ _ _ (sub-le _ _) (c .before .before .before .before .before .before .pre .1 .0), add-one-le (c .before .before .loop-test .taken)))
 
 read-path-returns : (t : ℕ) → read-path-lts.Need-returns (
   read-arch-below t,
@@ -272,10 +212,44 @@ read-path-returns : (t : ℕ) → read-path-lts.Need-returns (
   lower-reads.Learnt,
 ) (read-path-at t) read-path.Post read-path-Inv-loop read-path-μ-loop
 read-path-returns t c =
-    let args = c .before .before .before .before .before .before .before .before .before .before .args in
-    let loop = c .before .before .before .before .before .before .before .loop in
-    let read-arch = c .before .before .read-arch in
-    no-arch (loop .inv) (c .before .before .before .before .before .before .loop-test .taken) (arch-bad (args .d) (args .v) (args .n) (args .x + loop .size) (take (length (args .s .now) - loop .next) (drop (loop .next) (args .s .now))) (read-arch .result .good) (read-arch .result .next) (read-arch .result .size) (read-arch .result .number) (c .if2 .taken) (read-arch .ensures))
+    no-arch (c .before .before .before .before .before .before .loop .inv) (c .before .before .before .before .before .loop-test .taken) (c .before .before .before .if1 .taken) (arch-bad (c .before .before .read-arch .result .good) _ _ _ _ _ _ _ (c .if2 .taken) (c .before .before .read-arch .ensures))
+
+-- the arch that is read, its room, and the path with it
+read-path-arch : (t : ℕ) (c : read-path-lts.Else2 (
+  read-arch-below t,
+  read-arch.Post,
+  lower-reads.Asked,
+  lower-reads.Learnt,
+) (read-path-at t) read-path.Post read-path-Inv-loop read-path-μ-loop) →
+    let args = c .before .before .before .before .before .before .before .before .before .args in
+    let loop = c .before .before .before .before .before .before .loop in
+    let got = c .before .before .read-arch .result in
+    ArchRead (args .v) (args .room - loop .size) (args .s .now) (loop .next + 1) (got .next) (got .size) (got .number)
+read-path-arch t c = arch-good (c .before .before .read-arch .result .good) _ _ _ _ _ _ _ (c .if2 .left) (c .before .before .read-arch .ensures)
+
+read-path-wide : (t : ℕ) (c : read-path-lts.Else2 (
+  read-arch-below t,
+  read-arch.Post,
+  lower-reads.Asked,
+  lower-reads.Learnt,
+) (read-path-at t) read-path.Post read-path-Inv-loop read-path-μ-loop) →
+    let args = c .before .before .before .before .before .before .before .before .before .args in
+    c .before .before .before .before .before .before .loop .size + c .before .before .read-arch .result .size + args .v + 1 ≤ args .room
+read-path-wide t c = wide (c .before .before .before .before .before .before .loop .inv) (read-path-arch t c)
+
+read-path-longer : (t : ℕ) (c : read-path-lts.After-lower (
+  read-arch-below t,
+  read-arch.Post,
+  lower-reads.Asked,
+  lower-reads.Learnt,
+) (read-path-at t) read-path.Post read-path-Inv-loop read-path-μ-loop) →
+    let args = c .before .before .before .before .before .before .before .before .before .before .before .args in
+    let loop = c .before .before .before .before .before .before .before .before .loop in
+    let got = c .before .before .before .before .read-arch .result in
+    Begun (args .v) (args .room) (args .s .now) (args .from) (got .next) (loop .size + got .size + args .v + 1) (c .lower .result + (loop .number + getD (args .table .now) (loop .size) 0 * got .number))
+read-path-longer t c =
+    let loop = c .before .before .before .before .before .before .before .before .loop in
+    with-arch (loop .inv) (c .before .before .before .before .before .before .before .loop-test .taken) (c .before .before .before .before .before .if1 .taken) (read-path-arch t (c .before .before)) _ _ (c .lower .ensures) (c .before .before .before .before .before .before .before .before .before .before .before .pre .1 .0 .full (loop .size) (loop .inv .fits))
 
 read-path-add-m : (t : ℕ) → read-path-lts.Need-add-m (
   read-arch-below t,
@@ -284,12 +258,7 @@ read-path-add-m : (t : ℕ) → read-path-lts.Need-add-m (
   lower-reads.Learnt,
 ) (read-path-at t) read-path.Post read-path-Inv-loop read-path-μ-loop
 read-path-add-m t c =
-    let args = c .before .before .before .before .before .before .before .before .before .before .before .args in
-    let pre = c .before .before .before .before .before .before .before .before .before .before .before .pre in
-    let loop = c .before .before .before .before .before .before .before .before .loop in
-    let read-arch = c .before .before .before .read-arch in
-    let inside = arch-good (args .d) (args .v) (args .n) (args .x + loop .size) (take (length (args .s .now) - loop .next) (drop (loop .next) (args .s .now))) (read-arch .result .good) (read-arch .result .next) (read-arch .result .size) (read-arch .result .number) (c .before .if2 .left) (read-arch .ensures) in
-    record { fits = wide-fits (args .x) _ (args .v) _ (wide (loop .inv) (c .before .before .before .before .before .before .before .loop-test .taken) inside) (pre .1 .0 .small) .0 }
+    record { fits = wide-fits _ _ _ (read-path-wide t (c .before)) (c .before .before .before .before .before .before .before .before .before .before .pre .1 .0 .small) .0 }
 
 read-path-lower-requires : (t : ℕ) → read-path-lts.Need-lower-requires (
   read-arch-below t,
@@ -298,12 +267,7 @@ read-path-lower-requires : (t : ℕ) → read-path-lts.Need-lower-requires (
   lower-reads.Learnt,
 ) (read-path-at t) read-path.Post read-path-Inv-loop read-path-μ-loop
 read-path-lower-requires t c κs =
-    let pre = c .before .before .before .before .before .before .before .before .before .before .before .pre in
-    let args = c .before .before .before .before .before .before .before .before .before .before .before .args in
-    let loop = c .before .before .before .before .before .before .before .before .loop in
-    let read-arch = c .before .before .before .read-arch in
-    let inside = arch-good (args .d) (args .v) (args .n) (args .x + loop .size) (take (length (args .s .now) - loop .next) (drop (loop .next) (args .s .now))) (read-arch .result .good) (read-arch .result .next) (read-arch .result .size) (read-arch .result .number) (c .before .if2 .left) (read-arch .ensures) in
-    (pre .1 .0, wide-less (args .x) _ (args .v) _ (wide (loop .inv) (c .before .before .before .before .before .before .before .loop-test .taken) inside), le-more _ _)
+    (c .before .before .before .before .before .before .before .before .before .before .pre .1 .0, wide-less _ _ _ (read-path-wide t (c .before)), le-more _ _)
 
 read-path-mul-number : (t : ℕ) → read-path-lts.Need-mul-number (
   read-arch-below t,
@@ -312,9 +276,7 @@ read-path-mul-number : (t : ℕ) → read-path-lts.Need-mul-number (
   lower-reads.Learnt,
 ) (read-path-at t) read-path.Post read-path-Inv-loop read-path-μ-loop
 read-path-mul-number t c =
-    let pre = c .before .before .before .before .before .before .before .before .before .before .before .before .pre in
-    let loop = c .before .before .before .before .before .before .before .before .before .loop in
-    record { fits = byte-fits _ _ (part-le _ _ _ (loop .inv .room)) (pre .1 .0 .small) }
+    record { fits = byte-fits _ _ (c .before .before .before .before .before .before .before .before .loop .inv .fits) (c .before .before .before .before .before .before .before .before .before .before .before .pre .1 .0 .small) }
 
 read-path-shared-slice-read-number : (t : ℕ) → read-path-lts.Need-shared-slice-read-number (
   read-arch-below t,
@@ -323,9 +285,7 @@ read-path-shared-slice-read-number : (t : ℕ) → read-path-lts.Need-shared-sli
   lower-reads.Learnt,
 ) (read-path-at t) read-path.Post read-path-Inv-loop read-path-μ-loop
 read-path-shared-slice-read-number t c =
-    let pre = c .before .before .before .before .before .before .before .before .before .before .before .before .before .pre in
-    let loop = c .before .before .before .before .before .before .before .before .before .before .loop in
-    lt-of-le-of-lt (part-le _ _ _ (loop .inv .room)) (pre .1 .0 .long)
+    lt-of-le-of-lt (c .before .before .before .before .before .before .before .before .before .loop .inv .fits) (c .before .before .before .before .before .before .before .before .before .before .before .before .pre .1 .0 .long)
 
 read-path-mul-number-2 : (t : ℕ) → read-path-lts.Need-mul-number-2 (
   read-arch-below t,
@@ -334,13 +294,7 @@ read-path-mul-number-2 : (t : ℕ) → read-path-lts.Need-mul-number-2 (
   lower-reads.Learnt,
 ) (read-path-at t) read-path.Post read-path-Inv-loop read-path-μ-loop
 read-path-mul-number-2 t c =
-    let args = c .before .before .before .before .before .before .before .before .before .before .before .before .before .before .args in
-    let pre = c .before .before .before .before .before .before .before .before .before .before .before .before .before .before .pre in
-    let loop = c .before .before .before .before .before .before .before .before .before .before .before .loop in
-    let read-arch = c .before .before .before .before .before .before .read-arch in
-    let lower = c .before .before .lower in
-    let inside = arch-good (args .d) (args .v) (args .n) (args .x + loop .size) (take (length (args .s .now) - loop .next) (drop (loop .next) (args .s .now))) (read-arch .result .good) (read-arch .result .next) (read-arch .result .size) (read-arch .result .number) (c .before .before .before .before .if2 .left) (read-arch .ensures) in
-    record { fits = parts-fit _ _ _ (arch-fits (loop .inv) (c .before .before .before .before .before .before .before .before .before .before .loop-test .taken) inside (args .table .now) (pre .1 .0) (lower .result) (getD (args .table .now) (loop .size) 0) (lower .ensures) (pre .1 .0 .full (loop .size) (part-le _ _ _ (loop .inv .room)))) .0 }
+    record { fits = parts-fit _ _ _ (begun-fits (read-path-longer t (c .before .before)) (c .before .before .before .before .before .before .before .before .before .before .before .before .before .pre .1 .0)) .0 }
 
 read-path-add-number : (t : ℕ) → read-path-lts.Need-add-number (
   read-arch-below t,
@@ -349,13 +303,7 @@ read-path-add-number : (t : ℕ) → read-path-lts.Need-add-number (
   lower-reads.Learnt,
 ) (read-path-at t) read-path.Post read-path-Inv-loop read-path-μ-loop
 read-path-add-number t c =
-    let args = c .before .before .before .before .before .before .before .before .before .before .before .before .before .before .args in
-    let pre = c .before .before .before .before .before .before .before .before .before .before .before .before .before .before .pre in
-    let loop = c .before .before .before .before .before .before .before .before .before .before .before .loop in
-    let read-arch = c .before .before .before .before .before .before .read-arch in
-    let lower = c .before .before .lower in
-    let inside = arch-good (args .d) (args .v) (args .n) (args .x + loop .size) (take (length (args .s .now) - loop .next) (drop (loop .next) (args .s .now))) (read-arch .result .good) (read-arch .result .next) (read-arch .result .size) (read-arch .result .number) (c .before .before .before .before .if2 .left) (read-arch .ensures) in
-    record { fits = parts-fit _ _ _ (arch-fits (loop .inv) (c .before .before .before .before .before .before .before .before .before .before .loop-test .taken) inside (args .table .now) (pre .1 .0) (lower .result) (getD (args .table .now) (loop .size) 0) (lower .ensures) (pre .1 .0 .full (loop .size) (part-le _ _ _ (loop .inv .room)))) .1 }
+    record { fits = parts-fit _ _ _ (begun-fits (read-path-longer t (c .before .before)) (c .before .before .before .before .before .before .before .before .before .before .before .before .before .pre .1 .0)) .1 }
 
 read-path-add-number-2 : (t : ℕ) → read-path-lts.Need-add-number-2 (
   read-arch-below t,
@@ -364,13 +312,7 @@ read-path-add-number-2 : (t : ℕ) → read-path-lts.Need-add-number-2 (
   lower-reads.Learnt,
 ) (read-path-at t) read-path.Post read-path-Inv-loop read-path-μ-loop
 read-path-add-number-2 t c =
-    let args = c .before .before .before .before .before .before .before .before .before .before .before .before .before .before .args in
-    let pre = c .before .before .before .before .before .before .before .before .before .before .before .before .before .before .pre in
-    let loop = c .before .before .before .before .before .before .before .before .before .before .before .loop in
-    let read-arch = c .before .before .before .before .before .before .read-arch in
-    let lower = c .before .before .lower in
-    let inside = arch-good (args .d) (args .v) (args .n) (args .x + loop .size) (take (length (args .s .now) - loop .next) (drop (loop .next) (args .s .now))) (read-arch .result .good) (read-arch .result .next) (read-arch .result .size) (read-arch .result .number) (c .before .before .before .before .if2 .left) (read-arch .ensures) in
-    record { fits = arch-fits (loop .inv) (c .before .before .before .before .before .before .before .before .before .before .loop-test .taken) inside (args .table .now) (pre .1 .0) (lower .result) (getD (args .table .now) (loop .size) 0) (lower .ensures) (pre .1 .0 .full (loop .size) (part-le _ _ _ (loop .inv .room))) }
+    record { fits = begun-fits (read-path-longer t (c .before .before)) (c .before .before .before .before .before .before .before .before .before .before .before .before .before .pre .1 .0) }
 
 read-path-add-size : (t : ℕ) → read-path-lts.Need-add-size (
   read-arch-below t,
@@ -379,12 +321,7 @@ read-path-add-size : (t : ℕ) → read-path-lts.Need-add-size (
   lower-reads.Learnt,
 ) (read-path-at t) read-path.Post read-path-Inv-loop read-path-μ-loop
 read-path-add-size t c =
-    let args = c .before .before .before .before .before .before .before .before .before .before .before .before .before .before .args in
-    let pre = c .before .before .before .before .before .before .before .before .before .before .before .before .before .before .pre in
-    let loop = c .before .before .before .before .before .before .before .before .before .before .before .loop in
-    let read-arch = c .before .before .before .before .before .before .read-arch in
-    let inside = arch-good (args .d) (args .v) (args .n) (args .x + loop .size) (take (length (args .s .now) - loop .next) (drop (loop .next) (args .s .now))) (read-arch .result .good) (read-arch .result .next) (read-arch .result .size) (read-arch .result .number) (c .before .before .before .before .if2 .left) (read-arch .ensures) in
-    record { fits = wide-fits (args .x) _ (args .v) _ (wide (loop .inv) (c .before .before .before .before .before .before .before .before .before .before .loop-test .taken) inside) (pre .1 .0 .small) .1 }
+    record { fits = wide-fits _ _ _ (read-path-wide t (c .before .before .before .before)) (c .before .before .before .before .before .before .before .before .before .before .before .before .before .pre .1 .0 .small) .1 }
 
 read-path-add-size-2 : (t : ℕ) → read-path-lts.Need-add-size-2 (
   read-arch-below t,
@@ -393,26 +330,7 @@ read-path-add-size-2 : (t : ℕ) → read-path-lts.Need-add-size-2 (
   lower-reads.Learnt,
 ) (read-path-at t) read-path.Post read-path-Inv-loop read-path-μ-loop
 read-path-add-size-2 t c =
-    let args = c .before .before .before .before .before .before .before .before .before .before .before .before .before .before .args in
-    let pre = c .before .before .before .before .before .before .before .before .before .before .before .before .before .before .pre in
-    let loop = c .before .before .before .before .before .before .before .before .before .before .before .loop in
-    let read-arch = c .before .before .before .before .before .before .read-arch in
-    let inside = arch-good (args .d) (args .v) (args .n) (args .x + loop .size) (take (length (args .s .now) - loop .next) (drop (loop .next) (args .s .now))) (read-arch .result .good) (read-arch .result .next) (read-arch .result .size) (read-arch .result .number) (c .before .before .before .before .if2 .left) (read-arch .ensures) in
-    record { fits = wide-fits (args .x) _ (args .v) _ (wide (loop .inv) (c .before .before .before .before .before .before .before .before .before .before .loop-test .taken) inside) (pre .1 .0 .small) .2 }
-
-read-path-add-next : (t : ℕ) → read-path-lts.Need-add-next (
-  read-arch-below t,
-  read-arch.Post,
-  lower-reads.Asked,
-  lower-reads.Learnt,
-) (read-path-at t) read-path.Post read-path-Inv-loop read-path-μ-loop
-read-path-add-next t c =
-    let args = c .before .before .before .before .before .before .before .before .before .before .before .before .before .before .before .args in
-    let good = c .before .before .before .before .before .before .before .before .before .before .before .before .before .before .before .good in
-    let loop = c .before .before .before .before .before .before .before .before .before .before .before .before .loop in
-    let read-arch = c .before .before .before .before .before .before .before .read-arch in
-    let inside = arch-good (args .d) (args .v) (args .n) (args .x + loop .size) (take (length (args .s .now) - loop .next) (drop (loop .next) (args .s .now))) (read-arch .result .good) (read-arch .result .next) (read-arch .result .size) (read-arch .result .number) (c .before .before .before .before .before .if2 .left) (read-arch .ensures) in
-    record { fits = lt-of-le-of-lt (moves (loop .inv) (c .before .before .before .before .before .before .before .before .before .before .before .loop-test .taken) inside .1) (good .0 .0) }
+    record { fits = wide-fits _ _ _ (read-path-wide t (c .before .before .before .before)) (c .before .before .before .before .before .before .before .before .before .before .before .before .before .pre .1 .0 .small) .2 }
 
 read-path-loop-less : (t : ℕ) → read-path-lts.Need-loop-less (
   read-arch-below t,
@@ -421,11 +339,7 @@ read-path-loop-less : (t : ℕ) → read-path-lts.Need-loop-less (
   lower-reads.Learnt,
 ) (read-path-at t) read-path.Post read-path-Inv-loop read-path-μ-loop
 read-path-loop-less t c =
-    let args = c .before .before .before .before .before .before .before .before .before .before .before .before .before .before .before .args in
-    let loop = c .before .before .before .before .before .before .before .before .before .before .before .before .loop in
-    let read-arch = c .before .before .before .before .before .before .before .read-arch in
-    let inside = arch-good (args .d) (args .v) (args .n) (args .x + loop .size) (take (length (args .s .now) - loop .next) (drop (loop .next) (args .s .now))) (read-arch .result .good) (read-arch .result .next) (read-arch .result .size) (read-arch .result .number) (c .before .before .before .before .before .if2 .left) (read-arch .ensures) in
-    (let m = moves (loop .inv) (c .before .before .before .before .before .before .before .before .before .before .before .loop-test .taken) inside in left-less _ _ _ (m .0) (m .1))
+    moves (c .before .before .before .before .before .before .before .before .before .before .loop .inv) (read-path-arch t (c .before .before .before .before))
 
 read-path-loop-again : (t : ℕ) → read-path-lts.Need-loop-again (
   read-arch-below t,
@@ -434,13 +348,7 @@ read-path-loop-again : (t : ℕ) → read-path-lts.Need-loop-again (
   lower-reads.Learnt,
 ) (read-path-at t) read-path.Post read-path-Inv-loop read-path-μ-loop
 read-path-loop-again t c =
-    let args = c .before .before .before .before .before .before .before .before .before .before .before .before .before .before .before .args in
-    let pre = c .before .before .before .before .before .before .before .before .before .before .before .before .before .before .before .pre in
-    let loop = c .before .before .before .before .before .before .before .before .before .before .before .before .loop in
-    let read-arch = c .before .before .before .before .before .before .before .read-arch in
-    let lower = c .before .before .before .lower in
-    let inside = arch-good (args .d) (args .v) (args .n) (args .x + loop .size) (take (length (args .s .now) - loop .next) (drop (loop .next) (args .s .now))) (read-arch .result .good) (read-arch .result .next) (read-arch .result .size) (read-arch .result .number) (c .before .before .before .before .before .if2 .left) (read-arch .ensures) in
-    with-arch (loop .inv) (c .before .before .before .before .before .before .before .before .before .before .before .loop-test .taken) inside (lower .result) (getD (args .table .now) (loop .size) 0) (lower .ensures) (pre .1 .0 .full (loop .size) (part-le _ _ _ (loop .inv .room)))
+    read-path-longer t (c .before .before)
 
 read-path-returns-2 : (t : ℕ) → read-path-lts.Need-returns-2 (
   read-arch-below t,
@@ -449,49 +357,16 @@ read-path-returns-2 : (t : ℕ) → read-path-lts.Need-returns-2 (
   lower-reads.Learnt,
 ) (read-path-at t) read-path.Post read-path-Inv-loop read-path-μ-loop
 read-path-returns-2 t c =
-    let loop = c .before .before .before .before .before .loop in
-    no-diagonal (loop .inv) (c .before .before .before .before .loop-test .taken) (c .before .if3 .left) (c .if4 .taken)
+    no-room (c .before .before .before .before .before .loop .inv) (c .before .before .before .before .loop-test .taken) (c .before .if3 .left) (c .if4 .taken)
 
-read-path-add-if5 : (t : ℕ) → read-path-lts.Need-add-if5 (
+read-path-add-next : (t : ℕ) → read-path-lts.Need-add-next (
   read-arch-below t,
   read-arch.Post,
   lower-reads.Asked,
   lower-reads.Learnt,
 ) (read-path-at t) read-path.Post read-path-Inv-loop read-path-μ-loop
-read-path-add-if5 t c =
-    let pre = c .before .before .before .before .before .before .before .before .pre in
-    let loop = c .before .before .before .before .before .loop in
-    record { fits = sum-fits _ _ (loop .inv .room) (pre .1 .0 .small) .0 }
-
-read-path-add-if5-2 : (t : ℕ) → read-path-lts.Need-add-if5-2 (
-  read-arch-below t,
-  read-arch.Post,
-  lower-reads.Asked,
-  lower-reads.Learnt,
-) (read-path-at t) read-path.Post read-path-Inv-loop read-path-μ-loop
-read-path-add-if5-2 t c =
-    let pre = c .before .before .before .before .before .before .before .before .pre in
-    let loop = c .before .before .before .before .before .loop in
-    record { fits = sum-fits _ _ (loop .inv .room) (pre .1 .0 .small) .1 }
-
-read-path-returns-3 : (t : ℕ) → read-path-lts.Need-returns-3 (
-  read-arch-below t,
-  read-arch.Post,
-  lower-reads.Asked,
-  lower-reads.Learnt,
-) (read-path-at t) read-path.Post read-path-Inv-loop read-path-μ-loop
-read-path-returns-3 t c =
-    let loop = c .before .before .before .before .before .before .loop in
-    no-room (loop .inv) (c .before .before .before .before .before .loop-test .taken) (c .before .before .if3 .left) (c .if5 .taken)
-
-read-path-add-next-2 : (t : ℕ) → read-path-lts.Need-add-next-2 (
-  read-arch-below t,
-  read-arch.Post,
-  lower-reads.Asked,
-  lower-reads.Learnt,
-) (read-path-at t) read-path.Post read-path-Inv-loop read-path-μ-loop
-read-path-add-next-2 t c =
-    record { fits = next-fits _ _ (c .before .before .before .before .before .loop-test .taken) (c .before .before .before .before .before .before .before .before .before .good .0 .0) }
+read-path-add-next t c =
+    record { fits = next-fits _ _ (c .before .before .before .before .loop-test .taken) (c .before .before .before .before .before .before .before .before .good .0 .0) }
 
 read-path-add-size-3 : (t : ℕ) → read-path-lts.Need-add-size-3 (
   read-arch-below t,
@@ -500,9 +375,7 @@ read-path-add-size-3 : (t : ℕ) → read-path-lts.Need-add-size-3 (
   lower-reads.Learnt,
 ) (read-path-at t) read-path.Post read-path-Inv-loop read-path-μ-loop
 read-path-add-size-3 t c =
-    let pre = c .before .before .before .before .before .before .before .before .before .pre in
-    let loop = c .before .before .before .before .before .before .loop in
-    record { fits = sum-fits _ _ (part-le _ _ _ (loop .inv .room)) (pre .1 .0 .small) .1 }
+    record { fits = sum-fits _ _ (c .before .before .before .before .before .loop .inv .fits) (c .before .before .before .before .before .before .before .before .pre .1 .0 .small) }
 
 read-path-loop-less-2 : (t : ℕ) → read-path-lts.Need-loop-less-2 (
   read-arch-below t,
@@ -511,7 +384,7 @@ read-path-loop-less-2 : (t : ℕ) → read-path-lts.Need-loop-less-2 (
   lower-reads.Learnt,
 ) (read-path-at t) read-path.Post read-path-Inv-loop read-path-μ-loop
 read-path-loop-less-2 t c =
-    left-one _ _ (c .before .before .before .before .before .loop-test .taken)
+    left-one _ _ (c .before .before .before .before .loop-test .taken)
 
 read-path-loop-again-2 : (t : ℕ) → read-path-lts.Need-loop-again-2 (
   read-arch-below t,
@@ -520,8 +393,16 @@ read-path-loop-again-2 : (t : ℕ) → read-path-lts.Need-loop-again-2 (
   lower-reads.Learnt,
 ) (read-path-at t) read-path.Post read-path-Inv-loop read-path-μ-loop
 read-path-loop-again-2 t c =
-    let loop = c .before .before .before .before .before .before .loop in
-    with-dee (loop .inv) (c .before .before .before .before .before .loop-test .taken) (c .before .before .if3 .left) (c .before .if4 .left) (c .if5 .left)
+    with-dee (c .before .before .before .before .before .loop .inv) (c .before .before .before .before .loop-test .taken) (c .before .if3 .left) (c .if4 .left)
+
+read-path-returns-3 : (t : ℕ) → read-path-lts.Need-returns-3 (
+  read-arch-below t,
+  read-arch.Post,
+  lower-reads.Asked,
+  lower-reads.Learnt,
+) (read-path-at t) read-path.Post read-path-Inv-loop read-path-μ-loop
+read-path-returns-3 t c =
+    ends-over (c .before .loop .inv) (c .loop-test .left)
 
 read-path-returns-4 : (t : ℕ) → read-path-lts.Need-returns-4 (
   read-arch-below t,
@@ -530,17 +411,7 @@ read-path-returns-4 : (t : ℕ) → read-path-lts.Need-returns-4 (
   lower-reads.Learnt,
 ) (read-path-at t) read-path.Post read-path-Inv-loop read-path-μ-loop
 read-path-returns-4 t c =
-    ends-over (c .before .loop .inv) (c .loop-test .left)
-
-read-path-returns-5 : (t : ℕ) → read-path-lts.Need-returns-5 (
-  read-arch-below t,
-  read-arch.Post,
-  lower-reads.Asked,
-  lower-reads.Learnt,
-) (read-path-at t) read-path.Post read-path-Inv-loop read-path-μ-loop
-read-path-returns-5 t c =
-    let loop = c .before .before .before .before .loop in
-    ends-here (loop .inv) (c .before .before .before .loop-test .taken) (c .before .if1 .left) (c .if3 .taken)
+    ends-here (c .before .before .before .before .loop .inv) (c .before .before .before .loop-test .taken) (c .before .if1 .left) (c .if3 .taken)
 
 pub +read-arch+read-path-spec : {M : Type 1} → statement M
 +read-arch+read-path-spec = close μ-read-arch μ-read-path (λ t. read-arch-lts.spec (
@@ -550,21 +421,19 @@ pub +read-arch+read-path-spec : {M : Type 1} → statement M
     (read-arch-at t)
     read-arch.Post
     (read-arch-add-if1 t)
-    (read-arch-add-if1-2 t)
     (read-arch-returns t)
-    (read-arch-sub-read-path t)
-    (read-arch-part-read-path-start t)
-    (read-arch-part-read-path-end t)
-    (read-arch-add-read-path t)
-    (read-arch-add-read-path-2 t)
-    (read-arch-read-path-requires t)
+    (read-arch-shared-slice-read-if3 t)
+    (read-arch-add-t13 t)
     (read-arch-returns-2 t)
-    (read-arch-add-e t)
+    (read-arch-sub-read-path t)
+    (read-arch-sub-read-path-2 t)
+    (read-arch-read-path-requires t)
     (read-arch-returns-3 t)
-    (read-arch-shared-slice-read-if4 t)
     (read-arch-returns-4 t)
-    (read-arch-add-t10 t)
-    (read-arch-returns-5 t))
+    (read-arch-shared-slice-read-if6 t)
+    (read-arch-returns-5 t)
+    (read-arch-add-t8 t)
+    (read-arch-returns-6 t))
     λ t. read-path-lts.spec
     (read-arch-below t, read-arch.Post, lower-reads.Asked, lower-reads.Learnt)
     (read-path-at t)
@@ -573,10 +442,8 @@ pub +read-arch+read-path-spec : {M : Type 1} → statement M
     read-path-μ-loop
     (read-path-loop-holds t)
     (read-path-shared-slice-read-b t)
-    (read-path-sub-read-arch t)
-    (read-path-part-read-arch-start t)
-    (read-path-part-read-arch-end t)
     (read-path-add-read-arch t)
+    (read-path-sub-read-arch t)
     (read-path-read-arch-requires t)
     (read-path-returns t)
     (read-path-add-m t)
@@ -588,16 +455,12 @@ pub +read-arch+read-path-spec : {M : Type 1} → statement M
     (read-path-add-number-2 t)
     (read-path-add-size t)
     (read-path-add-size-2 t)
-    (read-path-add-next t)
     (read-path-loop-less t)
     (read-path-loop-again t)
     (read-path-returns-2 t)
-    (read-path-add-if5 t)
-    (read-path-add-if5-2 t)
-    (read-path-returns-3 t)
-    (read-path-add-next-2 t)
+    (read-path-add-next t)
     (read-path-add-size-3 t)
     (read-path-loop-less-2 t)
     (read-path-loop-again-2 t)
+    (read-path-returns-3 t)
     (read-path-returns-4 t)
-    (read-path-returns-5 t)
