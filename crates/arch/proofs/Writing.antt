@@ -6,7 +6,7 @@
 --   spelt-none, spelt-dee, spelt-arch an empty path, one that ends in `D`, one that ends in an arch
 --   spelt-before                      as many bytes as there were
 --   Insides, insides                  what the code asks between an arch's inside and its first part
---   spelt-whole, put-written, put-never    the spelt bytes, put to the front of others: there is room
+--   spelt-whole, put-written          the spelt bytes, put to the front of others: there is room
 use mathlib.Core.Path.{_≡_, refl, sym, ap, _∙_}
 use mathlib.Core.Bool.{Bool}
 use mathlib.Core.List.{List, [], _∷_, _++_, append-nil, append-assoc}
@@ -27,9 +27,7 @@ use Rattle.arches.proofs.Ranking.{pos-of-product, number-arch, number-one, buil
 use Rattle.rules.specs.Refusals.Answer.{accepted}
 use Rattle.rules.specs.Answers.{written}
 use Rattle.job.specs.declared.Built.{Built}
-use Rattle.job.specs.declared.Built.the-variants.{Length, Refused}
 use Rattle.job.specs.Replies.{BuiltAs}
-use Rattle.job.proofs.Says.{value-one, value-not}
 use Rattle.arch.specs.Sums.{Falls}
 use Rattle.arch.specs.Answers.{Written, Spelt}
 
@@ -205,15 +203,12 @@ module _ {d : Bool} {v n r : ℕ} {new : List ℕ} {k : ℕ} (s : Spelt d v n r 
         let fits : length (print d v (build d v n n r)) ≤ length out = omega (arith, long-least d v n r lt) in
         rw (le-leb (length (print d v (build d v n n r))) (length out) fits) at (rw part-is at p)
 
-    pub put-written : (l : ℕ) → x ≡ Length l → Written d v n r out after l
-    put-written l e =
-        let q = rw e at put-is in
-        let long : l ≡ length (print d v (build d v n n r)) = value-one (q .says) in
+    pub put-written : Written d v n r out after (128 - k)
+    put-written =
+        let q = put-is .output in
+        let long : length (print d v (build d v n n r)) ≡ 128 - k = omega (arith, s .long) in
         record {
-          shown = rw long (q .output);
-          long = sym long;
+          shown = rw long at q;
+          long = long;
           short = omega (arith, long-least d v n r lt);
         }
-
-    pub put-never : (f : ℕ) → x ≡ Refused f → ⊥
-    put-never f e = let q = rw e at put-is in value-not (sym (q .says))

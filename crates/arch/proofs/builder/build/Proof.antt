@@ -1,12 +1,8 @@
 -- The spelt path is put to the front of the bytes, where there is room. Assumes nothing.
-use Rattle.arch.proofs.Writing.{spelt-whole, put-written, put-never}
+use Rattle.arch.proofs.Writing.{spelt-whole, put-written}
 use borrow.Author.Needs.{needs}
 use Rattle.arch.proofs.builder.build.Statement.{statement}
 use Rattle.arch.proofs.builder.build.Tie as tie
-use Rattle.arch.proofs.builder.build.Reads as reads
-use Rattle.arch.proofs.builder.build.Lts as lts
-use Rattle.arch.proofs.builder.spell.Reads as spell-reads
-use Rattle.job.proofs.put.Reads as put-reads
 
 spell-requires : tie.Need-spell-requires
 spell-requires c κs = search needs
@@ -24,25 +20,15 @@ part-put-end c =
 put-requires : tie.Need-put-requires
 put-requires c κs = search needs
 
-enum-known-k : tie.Need-enum-known-k
-enum-known-k c = search needs
-
-enum-known-never : tie.Need-enum-known-never
-enum-known-never c = search needs
+sub-result : tie.Need-sub-result
+sub-result c = search needs
 
 same-length : tie.Need-same-length
 same-length c = search needs
 
 returns : tie.Need-returns
 returns c =
-    put-written (c .before .before .before .before .before .before .before .before .before .spell .ensures) (c .before .before .before .before .before .before .before .before .before .before .before .before .pre .1) (c .before .before .before .before .before .before .before .before .before .before .before .before .args .out .now) _ (c .before .before .before .before .before .before .before .before .before .before .before .before .pre .2) _ (c .before .before .before .before .before .put .ensures) _ (c .before .k .given .1)
-
-same-length-2 : tie.Need-same-length-2
-same-length-2 c = search needs
-
-returns-2 : tie.Need-returns-2
-returns-2 c =
-    absurd (put-never (c .before .before .before .before .before .before .before .before .before .spell .ensures) (c .before .before .before .before .before .before .before .before .before .before .before .before .pre .1) (c .before .before .before .before .before .before .before .before .before .before .before .before .args .out .now) _ (c .before .before .before .before .before .before .before .before .before .before .before .before .pre .2) _ (c .before .before .before .before .before .put .ensures) _ (c .before .never .given .1))
+    put-written (c .before .before .before .before .before .before .spell .ensures) (c .before .before .before .before .before .before .before .before .before .pre .1) (c .before .before .before .before .before .before .before .before .before .args .out .now) _ (c .before .before .before .before .before .before .before .before .before .pre .2) _ (c .before .before .put .ensures)
 
 pub build-spec : {M : Type 1} → statement M
 build-spec =
@@ -53,9 +39,6 @@ build-spec =
     part-put-start
     part-put-end
     put-requires
-    enum-known-k
-    enum-known-never
+    sub-result
     same-length
-    returns
-    same-length-2
-    returns-2)
+    returns)
