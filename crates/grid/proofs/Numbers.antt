@@ -1,14 +1,14 @@
 -- The number of an edge, read from its end over a filled table. Assumes nothing.
 --
 --   brought                      what a last step stands for, in the reader's words and in the table's
---   Read, read-of                what a valid edge's last letter says
---   num, num-all, num-none, num-step, num-below    the number of the first i letters, to (x, y)
+--   num, num-all, num-none, num-step    the number of the first i letters, to (x, y)
 --   Stand                        (x, y) at a cell lies before the end, and its count fits
 --   reads-at, stand-back         what can be read at a cell that stands before the end, and one step back
 --   read-in, read-is, read-more  the loop of `part_sum`
---   Walking, walking-start, last-in, stepped, walking-end   the loop of `rank`
-use mathlib.Core.Path.{_≡_, refl, sym, ap, _∙_}
-use mathlib.Core.Bool.{Bool, true, false}
+--   Walking, walking-start, last-in, stays-fits, step-in, step-byte, stepped, ends-fit, walking-end    the loop of `read`
+--   not-inside, not-letter, not-right, not-up, not-start    where it finds that the bytes are no edge
+use mathlib.Core.Path.{_≡_, refl, sym, ap, _∙_, subst}
+use mathlib.Core.Bool.{Bool, false}
 use mathlib.Core.List.{List, _∷_}
 use Prim.Native.Nat.{ℕ, _+_, _-_, _*_, _^_, _≤_, _<_}
 use native.Mathlib.Omega.{arith}
@@ -16,43 +16,34 @@ use native.Mathlib.Decide.{decLe}
 use native.Mathlib.Nat.{mul-add, add-zero}
 use lib.Dec.{T}
 use lib.ListN.{length, getD}
+use borrow.Author.Tests.{eq-eqb, ne-eqb}
 use Rattle.howmany.specs.Sum.{sum}
 use Rattle.howmany.proofs.Sums.{sum-cong, sum-mono, sum-below}
-use Rattle.howmany.proofs.Choices.{holds}
+use Rattle.job.specs.Replies.{reply}
+use Rattle.job.specs.Replies.Reply.{value, refusal}
 use Rattle.backward.specs.Reader.{rank, count}
-use Rattle.backward.specs.Grid.{grid, paths}
-use Rattle.backward.proofs.Backward.{rank-below}
-use Rattle.backward.proofs.Grids.{grid-lawful, back-count}
+use Rattle.backward.specs.Grid.{grid}
+use Rattle.backward.proofs.Grids.{back-count}
 use Rattle.grid.specs.Form.{wall, stepsIn, spot, W, via}
 use Rattle.letters.specs.Letters.{placeOf}
 use Rattle.grid.specs.Cells.{capOf, cellAt, place, sourceOf}
 use Rattle.grid.specs.declared.plan.Plan as plans
-use Rattle.grid.specs.Table.{Slopes, Ends, Cells}
-use Rattle.grid.specs.Plans.{strideFor, validFor, rankFor}
+use Rattle.grid.specs.Table.{Ends, Cells}
+use Rattle.grid.specs.Plans.{strideFor, walksFor, numberFor, validFor, rankFor}
 use Rattle.grid.specs.Filling.{Solid, Full}
 use Rattle.grid.specs.Edges.{endOf, numberOf, Reads}
-use Rattle.grid.proofs.Walls.{tested}
 use Rattle.grid.proofs.Laws.{onward, sum-more, via-in, W-step, cell-value}
 use Rattle.grid.proofs.Counts.{pos-of}
 use Rattle.grid.proofs.Columns.{source-left, source-in, rows, grow, brings}
 use Rattle.grid.proofs.Phases.{last-row}
-use Rattle.grid.proofs.Reading.{wordTo, word-all, word-cons, word-none, back-is, end-in, ok, ok-all, ok-out, ok-no-letter, ok-left, ok-under, ok-step}
+use Rattle.grid.proofs.Reading.{wordTo, word-all, word-cons, word-none, back-is, end-in, ok, ok-all, ok-end, ok-out, ok-no-letter, ok-left, ok-under, ok-step}
+use Rattle.grid.proofs.Tabled.{table-not, table-number}
 
 -- ---- numbers of words
 
 pub brought : (k f : ℕ) (sa sc : List ℕ) → ((i : ℕ) → i < k → 1 ≤ getD sa i 0) → (x y j : ℕ) → count (grid (stepsIn k f sa sc)) (grid (stepsIn k f sa sc) .back (spot x y) j) ≡ via k f sa sc x y j
 unfolding via
 brought k f sa sc pos x y j = back-count (stepsIn k f sa sc) (onward k f sa sc pos) (spot x y) j
-
-false-true : {b : Bool} → b ≡ false → b ≡ true → ⊥
-false-true p q = let z : _≡_ {A = ℕ} 0 1 = cc in omega arith
-
-pub record Read (corner : Bool) (k f : ℕ) (sa sc e : List ℕ) (i x y l : ℕ) : Type 0 where
-  pub inside : T (wall f x y)
-  pub below : l < k
-  pub right : getD sa l 0 ≤ x
-  pub up : getD sc l 0 ≤ y
-  pub rest : ok corner k f sa sc e (i - 1) (x - getD sa l 0) (y - getD sc l 0) ≡ true
 
 unfoldable pub num : Bool → ℕ → ℕ → List ℕ → List ℕ → List ℕ → ℕ → ℕ → ℕ → ℕ
 num corner k f sa sc e i x y = rank (grid (stepsIn k f sa sc)) (wordTo (placeOf corner) e i) (endOf k f sa sc x y)
@@ -67,38 +58,17 @@ module _ (corner : Bool) (k f : ℕ) (sa sc e : List ℕ) where
   num-none i x y h = ap (λ (w : List ℕ). rank (grid (stepsIn k f sa sc)) w (endOf k f sa sc x y)) (word-none (placeOf corner) e i h)
 
   module _ (pos : (i : ℕ) → i < k → 1 ≤ getD sa i 0) where
-    pub read-of : (i x y l : ℕ) → 0 < i → l ≡ placeOf corner (getD e (i - 1) 0) → ok corner k f sa sc e i x y ≡ true → Read corner k f sa sc e i x y l
-    read-of i x y l h q v =
-        elim (tested (wall f x y)) [
-          | no o ↦ absurd (false-true (ok-out corner k f sa sc e pos i x y l h q o) v)
-          | yes o ↦ elim (decLe k l) [
-            | yes b ↦ absurd (false-true (ok-no-letter corner k f sa sc e pos i x y l h q o b) v)
-            | no b ↦ elim (decLe (getD sa l 0) x) [
-              | yes a ↦ elim (decLe (getD sc l 0) y) [
-                | yes c ↦ record { inside = o; below = omega arith; right = a; up = c; rest = sym (ok-step corner k f sa sc e pos i x y l h q o (omega arith) a c) ∙ v }
-                | no c ↦ absurd (false-true (ok-under corner k f sa sc e pos i x y l h q o a (omega arith)) v)
-              ]
-              | no a ↦ absurd (false-true (ok-left corner k f sa sc e pos i x y l h q o (omega arith)) v)
-            ]
-          ]
-        ]
-
-    pub num-step : (i x y l : ℕ) → 0 < i → l ≡ placeOf corner (getD e (i - 1) 0) → Read corner k f sa sc e i x y l
+    pub num-step : (i x y l : ℕ) → 0 < i → l ≡ placeOf corner (getD e (i - 1) 0) → T (wall f x y) → getD sa l 0 ≤ x → getD sc l 0 ≤ y
         → num corner k f sa sc e i x y ≡ sum (via k f sa sc x y) l + num corner k f sa sc e (i - 1) (x - getD sa l 0) (y - getD sc l 0)
     unfolding num rank
-    num-step i x y l h q r =
+    num-step i x y l h q n a c =
         ap (λ (w : List ℕ). rank (grid (stepsIn k f sa sc)) w (endOf k f sa sc x y)) (word-cons (placeOf corner) e i l h q)
-        ∙ ap (rank (grid (stepsIn k f sa sc)) (l ∷ wordTo (placeOf corner) e (i - 1))) (end-in k f sa sc x y (r .inside))
+        ∙ ap (rank (grid (stepsIn k f sa sc)) (l ∷ wordTo (placeOf corner) e (i - 1))) (end-in k f sa sc x y n)
         ∙ omega (
           arith,
           sum-cong (λ j. count (grid (stepsIn k f sa sc)) (grid (stepsIn k f sa sc) .back (spot x y) j)) (via k f sa sc x y) l (λ j _. brought k f sa sc pos x y j),
-          ap (rank (grid (stepsIn k f sa sc)) (wordTo (placeOf corner) e (i - 1))) (back-is k f sa sc x y l (r .right) (r .up)),
+          ap (rank (grid (stepsIn k f sa sc)) (wordTo (placeOf corner) e (i - 1))) (back-is k f sa sc x y l a c),
         )
-
-    -- a valid edge's number is below the count
-    pub num-below : (i x y : ℕ) → ok corner k f sa sc e i x y ≡ true → num corner k f sa sc e i x y < W k f sa sc x y
-    unfolding num ok W paths
-    num-below i x y v = rank-below (grid (stepsIn k f sa sc)) (grid-lawful (stepsIn k f sa sc) (onward k f sa sc pos)) (wordTo (placeOf corner) e i) (endOf k f sa sc x y) (holds v)
 
 -- ---- a filled table
 
@@ -163,81 +133,105 @@ module _ {k f : ℕ} {sa sc off val : List ℕ} {x y p : ℕ} (rd : Reads k f sa
     omega (arith, sum-more (via k f sa sc x y) i, read-is, sum-mono (via k f sa sc x y) (i + 1) k (omega arith), rd .fits),
   )
 
--- ---- the loop of `rank`
+-- ---- the loop of `read`: the letters from i on led back from the end to (x, y). What they stand for and all walks to (x, y) are no more
+-- than the walks to the end, so that the sum fits, be the bytes an edge or not
 
 pub record Walking (p : plans.Plan) (sa sc off val e : List ℕ) (acc x y cell i : ℕ) : Type 0 where
   pub full : Full p sa sc off val
-  pub edge : validFor p sa sc e ≡ true
   pub i-le : i ≤ length e
-  pub valid : ok (p .corner) (p .k) (p .f) sa sc e i x y ≡ true
   pub stand : Stand p sa sc x y cell
+  pub under : acc + W (p .k) (p .f) sa sc x y ≤ walksFor p sa sc
+  pub same : ok (p .corner) (p .k) (p .f) sa sc e i x y ≡ validFor p sa sc e
   pub total : acc + num (p .corner) (p .k) (p .f) sa sc e i x y ≡ rankFor p sa sc e
 
 pub record Stepped (p : plans.Plan) (sa sc off val e : List ℕ) (acc x y cell i l : ℕ) : Type 0 where
   pub fewer : i - 1 < i
   pub below : l ≤ p .k
-  pub eight : l < 8
-  pub byte : l * 8 < 2 ^ 64
   pub reads : Reads (p .k) (p .f) sa sc off val x y cell
-  pub right : getD sa l 0 ≤ x
-  pub up : getD sc l 0 ≤ y
   pub far : getD off l 0 ≤ cell
-  pub fits : (v : ℕ) → v ≡ sum (via (p .k) (p .f) sa sc x y) l → acc + v < 2 ^ 64
-  pub next : (v : ℕ) → v ≡ sum (via (p .k) (p .f) sa sc x y) l → Walking p sa sc off val e (acc + v) (x - getD sa l 0) (y - getD sc l 0) (cell - getD off l 0) (i - 1)
+  pub fits : {v : ℕ} → v ≡ sum (via (p .k) (p .f) sa sc x y) l → acc + v < 2 ^ 64
+  pub next : {v : ℕ} → v ≡ sum (via (p .k) (p .f) sa sc x y) l → Walking p sa sc off val e (acc + v) (x - getD sa l 0) (y - getD sc l 0) (cell - getD off l 0) (i - 1)
 
 module _ {p : plans.Plan} {sa sc off val e : List ℕ} where
-  pub walking-start : Full p sa sc off val → validFor p sa sc e ≡ true → (cell : ℕ) → cell ≡ place (p .m) (p .ey) (p .ex) (p .ey) → Walking p sa sc off val e 0 (p .ex) (p .ey) cell (length e)
-  walking-start fu v cell ep = record {
+  pub walking-start : Full p sa sc off val → {cell : ℕ} → cell ≡ place (p .m) (p .ey) (p .ex) (p .ey) → Walking p sa sc off val e 0 (p .ex) (p .ey) cell (length e)
+  walking-start fu ep = record {
     full = fu;
-    edge = v;
     i-le = omega arith;
-    valid = ok-all (p .corner) (p .k) (p .f) sa sc e (p .ex) (p .ey) ∙ v;
     stand = record { end = omega arith; ends = (omega arith, omega arith); at = ep; fits = fu .fits };
+    under = omega arith;
+    same = ok-all (p .corner) (p .k) (p .f) sa sc e (p .ex) (p .ey);
     total = omega (arith, num-all (p .corner) (p .k) (p .f) sa sc e (p .ex) (p .ey));
   }
 
   module _ {acc x y cell i : ℕ} (w : Walking p sa sc off val e acc x y cell i) where
-    number-small : rankFor p sa sc e < 2 ^ 64
-    number-small = omega (arith, w .full .fits, num-all (p .corner) (p .k) (p .f) sa sc e (p .ex) (p .ey), num-below (p .corner) (p .k) (p .f) sa sc e (pos-of (w .full .ready .slopes)) (length e) (p .ex) (p .ey) (ok-all (p .corner) (p .k) (p .f) sa sc e (p .ex) (p .ey) ∙ w .edge))
-
     pub last-in : 0 < i → i - 1 < length e
     last-in h = omega (arith, w .i-le)
 
-    pub stepped : (l : ℕ) → 0 < i → l ≡ placeOf (p .corner) (getD e (i - 1) 0) → Stepped p sa sc off val e acc x y cell i l
-    stepped l h q = record {
-      fewer = omega arith;
-      below = omega (arith, re .below);
-      eight = omega (arith, re .below, pl .most);
-      byte = omega (arith, re .below, pl .most);
-      reads = rd;
-      right = re .right;
-      up = re .up;
-      far = rd .back l (re .below) (re .right);
-      fits = λ v ev. omega (arith, w .total, st, number-small);
-      next = λ v ev. record {
-        full = w .full;
-        edge = w .edge;
-        i-le = omega (arith, w .i-le);
-        valid = re .rest;
-        stand = stand-back (w .full) (w .stand) px (re .inside) l _ _ _ (re .below) refl refl refl (re .right) (re .up);
-        total = omega (arith, w .total, st);
-      };
-    }
-      where
-        pl : Slopes (p .k) sa sc (p .hi) (p .m) (p .ex)
-        pl = w .full .ready .slopes
+    pub stays-fits : (p .f ≤ 100) × (x ≤ 97)
+    stays-fits = (w .full .ready .sizes .f-le, omega (arith, w .stand .end, w .full .ready .sizes .ex-le))
 
-        re : Read (p .corner) (p .k) (p .f) sa sc e i x y l
-        re = read-of (p .corner) (p .k) (p .f) sa sc e (pos-of pl) i x y l h q (w .valid)
+    pub step-in : {l : ℕ} → l < p .k → l < 8
+    step-in b = omega (arith, w .full .ready .slopes .most)
 
-        px : 1 ≤ x
-        px = omega (arith, pos-of pl l (re .below), re .right)
+    pub step-byte : {l : ℕ} → l < p .k → l * 8 < 2 ^ 64
+    step-byte b = omega (arith, w .full .ready .slopes .most)
 
-        rd : Reads (p .k) (p .f) sa sc off val x y cell
-        rd = reads-at (w .full) (w .stand) px (re .inside)
+    no-edge : ok (p .corner) (p .k) (p .f) sa sc e i x y ≡ false → refusal 5 ≡ reply (numberFor p sa sc e)
+    no-edge o = table-not p sa sc e (w .full .fits) (sym (w .same) ∙ o)
 
-        st : num (p .corner) (p .k) (p .f) sa sc e i x y ≡ sum (via (p .k) (p .f) sa sc x y) l + num (p .corner) (p .k) (p .f) sa sc e (i - 1) (x - getD sa l 0) (y - getD sc l 0)
-        st = num-step (p .corner) (p .k) (p .f) sa sc e (pos-of pl) i x y l h q re
+    module _ (h : 0 < i) {l : ℕ} (q : l ≡ placeOf (p .corner) (getD e (i - 1) 0)) where
+      pos : (j : ℕ) → j < p .k → 1 ≤ getD sa j 0
+      pos = pos-of (w .full .ready .slopes)
 
-    pub walking-end : i ≤ 0 → acc ≡ rankFor p sa sc e
-    walking-end h = omega (arith, w .total, num-none (p .corner) (p .k) (p .f) sa sc e i x y h)
+      pub not-inside : wall (p .f) x y ≡ false → refusal 5 ≡ reply (numberFor p sa sc e)
+      not-inside o = no-edge (ok-out (p .corner) (p .k) (p .f) sa sc e pos i x y l h q (λ t. subst T o t))
+
+      module _ (n : T (wall (p .f) x y)) where
+        pub not-letter : p .k ≤ l → refusal 5 ≡ reply (numberFor p sa sc e)
+        not-letter o = no-edge (ok-no-letter (p .corner) (p .k) (p .f) sa sc e pos i x y l h q n o)
+
+        pub not-right : x < getD sa l 0 → refusal 5 ≡ reply (numberFor p sa sc e)
+        not-right o = no-edge (ok-left (p .corner) (p .k) (p .f) sa sc e pos i x y l h q n o)
+
+        pub not-up : getD sa l 0 ≤ x → y < getD sc l 0 → refusal 5 ≡ reply (numberFor p sa sc e)
+        not-up a o = no-edge (ok-under (p .corner) (p .k) (p .f) sa sc e pos i x y l h q n a o)
+
+        pub stepped : l < p .k → getD sa l 0 ≤ x → getD sc l 0 ≤ y → Stepped p sa sc off val e acc x y cell i l
+        stepped b a c = record {
+          fewer = omega arith;
+          below = omega arith;
+          reads = rd;
+          far = rd .back l b a;
+          fits = λ ev. omega (arith, part, w .under, w .full .fits);
+          next = λ ev. record {
+            full = w .full;
+            i-le = omega (arith, w .i-le);
+            stand = stand-back (w .full) (w .stand) px n l _ _ _ b refl refl refl a c;
+            under = omega (arith, part, via-in (p .k) (p .f) sa sc x y l a c, w .under);
+            same = sym (ok-step (p .corner) (p .k) (p .f) sa sc e pos i x y l h q n b a c) ∙ w .same;
+            total = omega (arith, w .total, num-step (p .corner) (p .k) (p .f) sa sc e pos i x y l h q n a c);
+          };
+        }
+          where
+            px : 1 ≤ x
+            px = omega (arith, pos l b)
+
+            rd : Reads (p .k) (p .f) sa sc off val x y cell
+            rd = reads-at (w .full) (w .stand) px n
+
+            -- the steps before l, and l itself, bring no more than all
+            part : sum (via (p .k) (p .f) sa sc x y) l + via (p .k) (p .f) sa sc x y l ≤ W (p .k) (p .f) sa sc x y
+            part = omega (arith, all-of (w .full) (w .stand) px n, sum-below (via (p .k) (p .f) sa sc x y) l (p .k) b)
+
+    pub ends-fit : x + y < 2 ^ 64
+    ends-fit = omega (arith, w .stand .end, w .stand .ends .0, w .full .ready .sizes .ex-le, w .full .ready .sizes .ey-le)
+
+    module _ (h : i ≤ 0) where
+      pub not-start : 0 < x + y → refusal 5 ≡ reply (numberFor p sa sc e)
+      not-start o = no-edge (sym (ok-end (p .corner) (p .k) (p .f) sa sc e i x y h) ∙ ne-eqb (x + y) 0 (λ q. omega arith))
+
+      pub walking-end : x + y ≤ 0 → value acc ≡ reply (numberFor p sa sc e)
+      walking-end o =
+          table-number p sa sc e acc (w .full .fits)
+          (sym (w .same) ∙ sym (ok-end (p .corner) (p .k) (p .f) sa sc e i x y h) ∙ eq-eqb (x + y) 0 (omega arith))
+          (omega (arith, w .total, num-none (p .corner) (p .k) (p .f) sa sc e i x y h))

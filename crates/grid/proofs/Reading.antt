@@ -7,8 +7,7 @@
 --   ok, ok-all                  whether the first i letters lead to (x, y); all of them
 --   ok-out, ok-no-letter, ok-left, ok-under, ok-step    one letter read
 --   ok-end                      no letters left
---   Checking, checking-start, checking-more, stays-fits, ends-fit, not-.., is-valid    the loop of `valid`
-use mathlib.Core.Path.{_≡_, refl, sym, ap, ap₂, _∙_, subst}
+use mathlib.Core.Path.{_≡_, refl, sym, ap, ap₂, _∙_}
 use mathlib.Core.Bool.{Bool, true, false, _&&_, and-false}
 use mathlib.Core.Option.{none, some}
 use mathlib.Core.List.{List, [], _∷_, _++_, map, reverse, reverse-cons}
@@ -28,8 +27,6 @@ use Rattle.backward.proofs.Grids.{grid-lawful}
 use Rattle.grid.specs.Form.{wall, stepsIn, spot}
 use Rattle.letters.specs.Letters.{placeOf}
 use Rattle.grid.specs.Edges.{endOf, isEdge}
-use Rattle.grid.specs.declared.plan.Plan.{Plan}
-use Rattle.grid.specs.Plans.{FormFor, validFor}
 use Rattle.grid.proofs.Walls.{wall-start}
 use Rattle.grid.proofs.Laws.{onward}
 
@@ -141,48 +138,3 @@ module _ (corner : Bool) (k f : ℕ) (sa sc e : List ℕ) where
       unfolding ok valid
       ok-step b a c =
           ok-some ∙ ap₂ _&&_ (is-true (ltb l k) (lt→ltb l k b)) (ap (valid (grid (stepsIn k f sa sc)) (wordTo (placeOf corner) e (i - 1))) (back-is k f sa sc x y l a c))
-
--- ---- the loop of `valid`
-
-pub record Checking (p : Plan) (sa sc e : List ℕ) (x y i : ℕ) : Type 0 where
-  pub form : FormFor p sa sc
-  pub x-le : x ≤ p .ex
-  pub y-le : y ≤ p .ey
-  pub i-le : i ≤ length e
-  pub same : ok (p .corner) (p .k) (p .f) sa sc e i x y ≡ validFor p sa sc e
-
-pub checking-start : {p : Plan} {sa sc e : List ℕ} → FormFor p sa sc → Checking p sa sc e (p .ex) (p .ey) (length e)
-checking-start {p} {sa} {sc} {e} fo = record { form = fo; x-le = omega arith; y-le = omega arith; i-le = omega arith; same = ok-all (p .corner) (p .k) (p .f) sa sc e (p .ex) (p .ey) }
-
-module _ {p : Plan} {sa sc e : List ℕ} {x y i : ℕ} (ch : Checking p sa sc e x y i) where
-  pub stays-fits : (p .f ≤ 100) × (x ≤ 97)
-  stays-fits = (omega (arith, ch .form .f-le), omega (arith, ch .x-le, ch .form .ex-le))
-
-  module _ (h : 0 < i) {l : ℕ} (q : l ≡ placeOf (p .corner) (getD e (i - 1) 0)) where
-    pub not-inside : wall (p .f) x y ≡ false → false ≡ validFor p sa sc e
-    not-inside o = sym (ok-out (p .corner) (p .k) (p .f) sa sc e (ch .form .ahead) i x y l h q (λ t. subst T o t)) ∙ ch .same
-
-    module _ (n : T (wall (p .f) x y)) where
-      pub not-letter : p .k ≤ l → false ≡ validFor p sa sc e
-      not-letter o = sym (ok-no-letter (p .corner) (p .k) (p .f) sa sc e (ch .form .ahead) i x y l h q n o) ∙ ch .same
-
-      pub not-right : x < getD sa l 0 → false ≡ validFor p sa sc e
-      not-right o = sym (ok-left (p .corner) (p .k) (p .f) sa sc e (ch .form .ahead) i x y l h q n o) ∙ ch .same
-
-      pub not-up : getD sa l 0 ≤ x → y < getD sc l 0 → false ≡ validFor p sa sc e
-      not-up a o = sym (ok-under (p .corner) (p .k) (p .f) sa sc e (ch .form .ahead) i x y l h q n a o) ∙ ch .same
-
-      pub checking-more : l < p .k → getD sa l 0 ≤ x → getD sc l 0 ≤ y → Checking p sa sc e (x - getD sa l 0) (y - getD sc l 0) (i - 1)
-      checking-more b a c = record {
-        form = ch .form;
-        x-le = omega (arith, ch .x-le);
-        y-le = omega (arith, ch .y-le);
-        i-le = omega (arith, ch .i-le);
-        same = sym (ok-step (p .corner) (p .k) (p .f) sa sc e (ch .form .ahead) i x y l h q n b a c) ∙ ch .same;
-      }
-
-  pub ends-fit : x + y ≤ 97 + 96
-  ends-fit = omega (arith, ch .x-le, ch .y-le, ch .form .ex-le, ch .form .ey-le)
-
-  pub is-valid : i ≤ 0 → eqb (x + y) 0 ≡ validFor p sa sc e
-  is-valid h = ok-end (p .corner) (p .k) (p .f) sa sc e i x y h ∙ ch .same

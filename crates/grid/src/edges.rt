@@ -1,17 +1,18 @@
-// Edges of the grid from their end backwards: validity, the number of an edge, and the edge of a number.
+// Edges of the grid from their end backwards: the number of an edge, and the edge of a number.
 ghost use mathlib.Core.Path.{_≡_};
-ghost use mathlib.Core.Bool.{true};
 ghost use Prim.Native.Nat.{_≤_, _<_};
 ghost use lib.ListN.{length, drop};
 ghost use Rattle.howmany.specs.Sum.{sum};
+ghost use Rattle.job.specs.Replies.{reply, numberSays};
 ghost use Rattle.grid.specs.Form.{via};
 ghost use Rattle.letters.specs.Letters.{glyphOf};
 ghost use Rattle.grid.specs.Edges.{Reads, Sought};
-ghost use Rattle.grid.specs.Plans.{FormFor, walksFor, validFor, rankFor, edgeFor};
+ghost use Rattle.grid.specs.Plans.{walksFor, numberFor, edgeFor};
 ghost use Rattle.grid.specs.Filling.{Full};
 use crate::column::source;
 use crate::cone::stays;
 use crate::plan::Plan;
+use job::Numbered;
 use job::Step;
 use letters::place_of;
 
@@ -30,35 +31,6 @@ fn glyph_of(corner: bool, i: usize) -> u8
         return Step::DIAGONAL;
     }
     (i + Step::FIRST as usize) as u8
-}
-
-// Whether e is an edge to (ex, ey).
-pub(crate) fn valid(e: &[u8], sa: &[usize; 8], sc: &[usize; 8], p: Plan) -> bool
-    requires { ⌜ FormFor p (now sa) (now sc) ⌝ }
-    ensures { λ r. ⌜ r ≡ validFor p (now (sa .entry)) (now (sc .entry)) (now (e .entry)) ⌝ }
-{
-    let mut x = p.ex;
-    let mut y = p.ey;
-    let mut i = e.len();
-    while 0 < i {
-        i -= 1;
-        let l = place_of(p.corner, e[i]);
-        if !stays(p.f, x, y) {
-            return false;
-        }
-        if p.k <= l {
-            return false;
-        }
-        if x < sa[l] {
-            return false;
-        }
-        if y < sc[l] {
-            return false;
-        }
-        x -= sa[l];
-        y -= sc[l];
-    }
-    x + y == 0
 }
 
 // What the first l steps bring to the cell at `at`, column x, height y.
@@ -88,17 +60,18 @@ fn part_sum(
     acc
 }
 
-// The number of a valid edge (001, algorithm 7).
-pub(crate) fn rank(
+// The number of the edge e (001, algorithm 7), or refusal 5 where e is no edge. Until that is known the sum fits all the same: with the
+// walks to (x, y) it is no more than the count.
+pub(crate) fn read(
     val: &[u64],
     sa: &[usize; 8],
     sc: &[usize; 8],
     off: &[usize; 8],
     p: Plan,
     e: &[u8],
-) -> u64
-    requires { ⌜ Full p (now sa) (now sc) (now off) (now val) × (validFor p (now sa) (now sc) (now e) ≡ true) ⌝ }
-    ensures { λ r. ⌜ r ≡ rankFor p (now (sa .entry)) (now (sc .entry)) (now (e .entry)) ⌝ }
+) -> Numbered
+    requires { ⌜ Full p (now sa) (now sc) (now off) (now val) ⌝ }
+    ensures { λ r. ⌜ numberSays r ≡ reply (numberFor p (now (sa .entry)) (now (sc .entry)) (now (e .entry))) ⌝ }
 {
     let mut acc: u64 = 0;
     let mut x = p.ex;
@@ -108,13 +81,29 @@ pub(crate) fn rank(
     while 0 < i {
         i -= 1;
         let l = place_of(p.corner, e[i]);
-        let v = part_sum(val, sa, sc, off, p.k, p.f, x, y, at, l);
-        acc += v;
-        x -= sa[l];
-        y -= sc[l];
+        if !stays(p.f, x, y) {
+            return Numbered::Refused(5);
+        }
+        if p.k <= l {
+            return Numbered::Refused(5);
+        }
+        let a = sa[l];
+        if x < a {
+            return Numbered::Refused(5);
+        }
+        let c = sc[l];
+        if y < c {
+            return Numbered::Refused(5);
+        }
+        acc += part_sum(val, sa, sc, off, p.k, p.f, x, y, at, l);
+        x -= a;
+        y -= c;
         at -= off[l];
     }
-    acc
+    if 0 < x + y {
+        return Numbered::Refused(5);
+    }
+    Numbered::Number(acc)
 }
 
 // A last step, and the number of what stands before it.

@@ -5,8 +5,7 @@ ghost use Rattle.grid.specs.Shapes.{FormOf};
 ghost use Rattle.grid.specs.Plans.{FormFor, PreparedFor, numberFor, numberAt};
 ghost use Rattle.grid.specs.Filling.{Begun};
 use crate::Answer;
-use crate::edges::rank;
-use crate::edges::valid;
+use crate::edges::read;
 use crate::plan::Plan;
 use crate::plan::cells_of;
 use crate::plan::offsets;
@@ -30,10 +29,7 @@ fn number_in(
     if let Answer::Over = fill(val, sa, sc, off, p) {
         return Numbered::Refused(4);
     }
-    if !valid(edge, sa, sc, p) {
-        return Numbered::Refused(5);
-    }
-    Numbered::Number(rank(val, sa, sc, off, p, edge))
+    read(val, sa, sc, off, p, edge)
 }
 
 fn number_384(sa: &[usize; 8], sc: &[usize; 8], off: &[usize; 8], p: Plan, edge: &[u8]) -> Numbered
