@@ -5,8 +5,8 @@
 --   below-told                  a test of the numbers against the table's count
 --   for-over, for-beyond, for-all    what is answered by the table's count and the numbers
 --   build-over, build-none, build-empty    the count needs more than 64 bits; it is 0, and there are numbers or none
---   shaped-lined                the table's answer is the job's
---   build-square, build-told, build-reply    the ways through a block
+--   plan-builds                 what the table of a shape's plan says is the job's
+--   build-square, build-told, build-reply, build-shaped    the ways through a block
 use mathlib.Core.Path.{_≡_, refl, sym, ap, _∙_}
 use mathlib.Core.Bool.{Bool, true, false}
 use mathlib.Core.List.{List, [], _∷_, _++_, map}
@@ -34,20 +34,21 @@ use Rattle.rules.proofs.Belows.{below-at, below-not}
 use Rattle.job.specs.Replies.{BuiltAs}
 use Rattle.job.specs.declared.Built.{Built}
 use Rattle.job.specs.declared.Built.the-variants.{Length, Refused}
-use Rattle.job.proofs.Standing.{Told}
+use Rattle.job.specs.declared.Job.{Job}
+use Rattle.job.proofs.Standing.{Kept, Told}
 use Rattle.lines.specs.Lines.{endsFrom, lined, LinedAs}
 use Rattle.lines.proofs.Lining.{Lining, lining-next, lined-refused}
 use Rattle.grid.specs.Form.{W}
 use Rattle.grid.specs.Edges as edges
-use Rattle.grid.specs.Shapes.{Grids}
+use Rattle.grid.specs.Shapes.{Grids, Fits, ShapedFor}
 use Rattle.grid.specs.Spelling.{Front, edgesFor}
-use Rattle.grid.specs.Calls.{forGrid, edgesOf}
-use Rattle.grid.specs.Plans.{walksFor, ListsFor, BuildsFor}
+use Rattle.grid.specs.Calls.{forGrid, edgesOf, BuildsOf, BuildsAs}
+use Rattle.grid.specs.Plans.{PlanOf, walksFor, ListsFor, BuildsFor}
 use Rattle.grid.specs.declared.plan.Plan.{Plan}
 use Rattle.grid.specs.declared.shape.Shape.{Shape}
-use Rattle.grid.proofs.Grounds.{shape-count}
+use Rattle.grid.proofs.Grounds.{stands-range, shape-count}
+use Rattle.grid.proofs.Counted.{kept-grids}
 use Rattle.grid.proofs.Worded.{shape-spells}
-use Rattle.grid.proofs.Counted.{Working}
 
 -- ---- one edge, and all of them
 
@@ -84,20 +85,20 @@ module _ (p : Plan) (sa sc ns steps ends : List ℕ) where
       → ListsFor p sa sc ns steps ends s t n → BuildsFor p sa sc ns steps ends s t (Length n)
   for-all n s t l e w = rw (le-leb (walksFor p sa sc) most (omega arith), e) w
 
--- ---- by the shape's state
+-- ---- by the job's count
 
 module _ (J : rules.Job) (ns steps ends : List ℕ) where
-  pub build-over : 2 ^ 64 ≤ countOf J → LinedAs (lined (edgesOf J ns) steps ends) (Refused 4) steps ends
+  pub build-over : 2 ^ 64 ≤ countOf J → BuildsOf J ns steps ends steps ends (Refused 4)
   unfolding refusalNumber
   build-over l = lined-refused (edgesOf J ns) over 4 steps ends (rw (lt-leb (countOf J) most (omega arith)) refl) refl
 
-  pub build-none : countOf J ≡ 0 → (length ns ≡ 0 → ⊥) → LinedAs (lined (edgesOf J ns) steps ends) (Refused 6) steps ends
+  pub build-none : countOf J ≡ 0 → (length ns ≡ 0 → ⊥) → BuildsOf J ns steps ends steps ends (Refused 6)
   unfolding refusalNumber
   build-none e n =
       lined-refused (edgesOf J ns) beyond 6 steps ends
       (rw (le-leb (countOf J) most (omega arith), below-not (countOf J) ns 0 (omega arith) (omega arith)) refl) refl
 
-  pub build-empty : countOf J ≡ 0 → length ns ≡ 0 → LinedAs (lined (edgesOf J ns) steps ends) (Length 0) steps ends
+  pub build-empty : countOf J ≡ 0 → length ns ≡ 0 → BuildsOf J ns steps ends steps ends (Length 0)
   unfolding lined joined endsFrom allBelow
   build-empty e n = rw (le-leb (countOf J) most (omega arith)) (go ns n)
     where
@@ -111,26 +112,25 @@ same-edges g h c [] e l = refl
 same-edges g h c (n ∷ ns) e l =
     ap (λ (z : List ℕ). z ∷ map g ns) (e n (l 0 (omega arith))) ∙ ap (λ (z : List (List ℕ)). h n ∷ z) (same-edges g h c ns e (λ i b. l (suc i) (omega arith)))
 
-build-shaped : (J : rules.Job) (s : Shape) → InRange J → Grids J → Working J s → (ns : List ℕ)
-    → edgesFor (s .corner) (s .k) (s .f) (s .sa) (s .sc) (s .ex) (s .ey) ns ≡ edgesOf J ns
-build-shaped J s r g w ns = rw same (go (allBelow (countOf J) ns) refl)
-  where
-    same : W (s .k) (s .f) (s .sa) (s .sc) (s .ex) (s .ey) ≡ countOf J
-    same = shape-count J s r (w .fits)
+module _ (J : rules.Job) (s : Shape) (r : InRange J) (f : Fits J s) {p : Plan} (po : PlanOf s p) (g : Grids J) where
+  plan-edges : (ns : List ℕ) → edgesFor (p .corner) (p .k) (p .f) (s .sa) (s .sc) (p .ex) (p .ey) ns ≡ edgesOf J ns
+  plan-edges ns = rw (po .corner-is, po .k-is, po .f-is, po .ex-is, po .ey-is, same) (go (allBelow (countOf J) ns) refl)
+    where
+      same : W (s .k) (s .f) (s .sa) (s .sc) (s .ex) (s .ey) ≡ countOf J
+      same = shape-count J s r f
 
-    by : ℕ → List ℕ
-    by = edges.edgeOf (s .corner) (s .k) (s .f) (s .sa) (s .sc) (s .ex) (s .ey)
+      by : ℕ → List ℕ
+      by = edges.edgeOf (s .corner) (s .k) (s .f) (s .sa) (s .sc) (s .ex) (s .ey)
 
-    go : (t : Bool) → allBelow (countOf J) ns ≡ t
-        → check (leb (countOf J) most) over (check t beyond (accepted (map by ns))) ≡ check (leb (countOf J) most) over (check t beyond (accepted (map (edgeOf J) ns)))
-    go true e =
-        ap (λ (z : List (List ℕ)). check (leb (countOf J) most) over (accepted z))
-        (same-edges by (edgeOf J) (countOf J) ns (λ q l. shape-spells J s g r (w .fits) q (omega (arith, same))) (below-at (countOf J) ns (holds e)))
-    go false e = refl
+      go : (t : Bool) → allBelow (countOf J) ns ≡ t
+          → check (leb (countOf J) most) over (check t beyond (accepted (map by ns))) ≡ check (leb (countOf J) most) over (check t beyond (accepted (map (edgeOf J) ns)))
+      go true e =
+          ap (λ (z : List (List ℕ)). check (leb (countOf J) most) over (accepted z))
+          (same-edges by (edgeOf J) (countOf J) ns (λ q l. shape-spells J s g r f q (omega (arith, same))) (below-at (countOf J) ns (holds e)))
+      go false e = refl
 
-pub shaped-lined : (J : rules.Job) (s : Shape) → InRange J → Grids J → Working J s → (ns steps ends : List ℕ) (x : Built) (t u : List ℕ)
-    → LinedAs (lined (edgesFor (s .corner) (s .k) (s .f) (s .sa) (s .sc) (s .ex) (s .ey) ns) steps ends) x t u → LinedAs (lined (edgesOf J ns) steps ends) x t u
-shaped-lined J s r g w ns steps ends x t u l = rw (build-shaped J s r g w ns) at l
+  pub plan-builds : (ns steps ends : List ℕ) (x : Built) (t u : List ℕ) → BuildsFor p (s .sa) (s .sc) ns steps ends t u x → BuildsOf J ns steps ends t u x
+  plan-builds ns steps ends x t u l = rw (plan-edges ns) at l
 
 -- ---- the ways through a block
 
@@ -145,5 +145,9 @@ module _ (b ns steps ends : List ℕ) where
       (rw e (edges-told b ns (t .refusal) (known-told b (t .refusal) (t .answer)))) (t .number)
 
   pub build-reply : (J : rules.Job) (x : Built) (s t : List ℕ) → square (familyOf b) ≡ false → jobAnswer b ≡ accepted J
-      → LinedAs (lined (edgesOf J ns) steps ends) x s t → LinedAs (lined (forGrid b (edgesAnswer b ns)) steps ends) x s t
+      → BuildsOf J ns steps ends s t x → LinedAs (lined (forGrid b (edgesAnswer b ns)) steps ends) x s t
   build-reply J x s t e a q = rw (e, edges-fitted b ns J a) q
+
+  pub build-shaped : (j : Job) (k : Kept b j) → square (familyOf b) ≡ false → {s : Shape} → ShapedFor j s → (x : Built) (t u : List ℕ) → BuildsAs s ns steps ends t u x
+      → LinedAs (lined (forGrid b (edgesAnswer b ns)) steps ends) x t u
+  build-shaped j k q w x t u h = build-reply (k .job) x t u q (k .answer) (h (k .job) (stands-range j (k .job) (k .stands)) (kept-grids b j k q) (w (k .job) (k .stands)))

@@ -1,9 +1,13 @@
 -- The count of a job, from its shape and its table. Assumes nothing.
 --
---   Working J s                             the shape has steps and an end to be worked out
---   state-over, state-none, state-working   what a shape's state says
---   counts-over, counts-none, counts-cap    the reply for each way to a count
---   told-reply, square-reply, count-reply   the reply for each way through a block
+--   Working J s                                the shape has steps and an end to be worked out
+--   state-none, state-empty, state-working     what a shape's state says
+--   counts-over, counts-value, counts-told     the reply for each way to a count
+--   number-over, number-none                   the reply for each way to a number that asks no table
+--   plan-count, plan-number                    what the table of a shape's plan says is the job's
+--   kept-grids, sound-of, countable-of         what holds of the job of a block
+--   square-reply, told-reply, count-reply ..   the reply for each way through a block
+--   count-shaped, number-shaped                the reply by the job's shape
 use mathlib.Core.Path.{_≡_, refl, sym, ap, _∙_}
 use mathlib.Core.Bool.{Bool, true, false}
 use mathlib.Core.List.{List}
@@ -24,67 +28,62 @@ use Rattle.rules.specs.Refusals.Answer.{accepted, refused}
 use Rattle.rules.specs.Answers.{most, countAnswer, numberAnswer}
 use Rattle.rules.specs.Ranges.{InRange}
 use Rattle.rules.proofs.Answering.{known-told, count-told, count-fitted, number-told, number-fitted}
-use Rattle.job.specs.Replies.{Reply, reply}
-use Rattle.job.specs.Replies.Reply.{value, refusal}
+use Rattle.job.specs.Replies.{reply, countSays, numberSays}
+use Rattle.job.specs.Replies.Reply.{refusal}
 use Rattle.job.specs.declared.Job.{Job}
+use Rattle.job.specs.declared.Counted.{Counted}
+use Rattle.job.specs.declared.Counted.the-variants.{Count as Counts, Refused}
+use Rattle.job.specs.declared.Numbered.{Numbered}
+use Rattle.job.specs.declared.Numbered.the-variants.{Refused as NumberRefused}
 use Rattle.job.proofs.Standing.{Kept, Told}
-use Rattle.grid.specs.Form.{Form, W}
 use Rattle.grid.specs.Cells.{capOf}
-use Rattle.grid.specs.Shapes.{Grids, Sound, Fits, Shaped}
+use Rattle.grid.specs.Shapes.{Grids, Sound, FormOf, Fits, Shaped, ShapedFor}
 use Rattle.grid.specs.Edges as edges
 use Rattle.grid.specs.Numbering.{tableNumber}
-use Rattle.grid.specs.Shapes.Shaped.{worked, over as is-over, nothing}
-use Rattle.grid.specs.Calls.{forGrid}
+use Rattle.grid.specs.Shapes.Shaped.{worked, nothing}
+use Rattle.grid.specs.Calls.{forGrid, toldOf, Countable, CountsOf, CountsAs, NumbersOf, NumbersAs}
+use Rattle.grid.specs.Plans.{PlanOf, walksFor, numberFor}
+use Rattle.grid.specs.declared.plan.Plan.{Plan}
 use Rattle.grid.specs.declared.shape.Shape.{Shape}
+use Rattle.grid.specs.declared.Answer as counts
 use Rattle.grid.specs.declared.Answer.the-variants.{Count, Over}
 use Rattle.grid.proofs.Laws.{cap-count, cap-over}
 use Rattle.grid.proofs.Worded.{shape-edge, shape-number}
-use Rattle.grid.proofs.Grounds.{grids-of, shape-count}
+use Rattle.grid.proofs.Grounds.{grids-of, stands-range, shape-count}
 
 pub record Working (J : rules.Job) (s : Shape) : Type 0 where
-  pub form : Form (s .k) (s .f) (s .sa) (s .sc) (s .top) (s .ex) (s .ey)
+  pub form : FormOf s
   pub fits : Fits J s
 
 module _ (J : rules.Job) (s : Shape) where
-  pub state-over : Shaped J s → s .state ≡ 1 → 2 ^ 64 ≤ countOf J
-  state-over (worked e f g) h = absurd (omega arith)
-  state-over (is-over e l) h = l
-  state-over (nothing e z n) h = absurd (omega arith)
-
-  pub state-none : Shaped J s → s .state ≡ 2 → countOf J ≡ 0
+  pub state-none : Shaped J s → s .state ≡ 1 → countOf J ≡ 0
   state-none (worked e f g) h = absurd (omega arith)
-  state-none (is-over e l) h = absurd (omega arith)
   state-none (nothing e z n) h = z
 
-  pub state-empty : Shaped J s → s .state ≡ 2 → (e : List ℕ) → Valid J e → ⊥
+  pub state-empty : Shaped J s → s .state ≡ 1 → (e : List ℕ) → Valid J e → ⊥
   state-empty (worked e f g) h = absurd (omega arith)
-  state-empty (is-over e l) h = absurd (omega arith)
   state-empty (nothing e z n) h = n
 
-  pub state-working : Shaped J s → (s .state ≡ 1 → ⊥) → (s .state ≡ 2 → ⊥) → Working J s
-  state-working (worked e f g) a b = record { form = f; fits = g }
-  state-working (is-over e l) a b = absurd (a e)
-  state-working (nothing e z n) a b = absurd (b e)
+  pub state-working : Shaped J s → (s .state ≡ 1 → ⊥) → Working J s
+  state-working (worked e f g) a = record { form = f; fits = g }
+  state-working (nothing e z n) a = absurd (a e)
 
 -- ---- the reply to a count
 
-pub counts-over : (c : ℕ) → 2 ^ 64 ≤ c → refusal 4 ≡ reply (check (leb c most) over (accepted c))
+pub counts-over : (J : rules.Job) → 2 ^ 64 ≤ countOf J → CountsOf J (Refused 4)
 unfolding refusalNumber
-counts-over c l = rw (lt-leb c most (omega arith)) refl
+counts-over J l = rw (lt-leb (countOf J) most (omega arith)) refl
 
-pub counts-value : (c d : ℕ) → c ≡ d → c < 2 ^ 64 → value d ≡ reply (check (leb c most) over (accepted c))
-counts-value c d e l = rw (le-leb c most (omega arith)) (ap value (sym e))
+pub counts-value : (J : rules.Job) (c : ℕ) → countOf J ≡ c → c < 2 ^ 64 → CountsOf J (Counts c)
+counts-value J c e l = rw (e, le-leb c most (omega arith)) refl
 
-pub counts-cap : (J : rules.Job) (s : Shape) → InRange J → Working J s → (c : ℕ) → Count c ≡ capOf (W (s .k) (s .f) (s .sa) (s .sc) (s .ex) (s .ey))
-    → value c ≡ reply (check (leb (countOf J) most) over (accepted (countOf J)))
-counts-cap J s r w c e =
-    let q = cap-count (W (s .k) (s .f) (s .sa) (s .sc) (s .ex) (s .ey)) c (sym e) in
-    let z = shape-count J s r (w .fits) in
-    counts-value (countOf J) c (sym z ∙ q .0) (omega (arith, q .1))
-
-pub counts-cap-over : (J : rules.Job) (s : Shape) → InRange J → Working J s → Over ≡ capOf (W (s .k) (s .f) (s .sa) (s .sc) (s .ex) (s .ey))
-    → refusal 4 ≡ reply (check (leb (countOf J) most) over (accepted (countOf J)))
-counts-cap-over J s r w e = counts-over (countOf J) (omega (arith, cap-over (W (s .k) (s .f) (s .sa) (s .sc) (s .ex) (s .ey)) (sym e), shape-count J s r (w .fits)))
+-- what is told of the table's answer is the job's count
+pub counts-told : (J : rules.Job) {w : ℕ} {a : counts.Answer} {x : Counted} → w ≡ countOf J → a ≡ capOf w → x ≡ toldOf a → CountsOf J x
+counts-told J {w} e q t = rw t (go _ q)
+  where
+    go : (a : counts.Answer) → a ≡ capOf w → CountsOf J (toldOf a)
+    go (Count c) q = let z = cap-count w c (sym q) in counts-value J c (sym e ∙ z .0) (omega (arith, z))
+    go Over q = counts-over J (omega (arith, cap-over w (sym q)))
 
 -- ---- the ways through a block
 
@@ -98,41 +97,59 @@ told-reply b r a e t q = rw (e, q) (ap refusal (t .number))
 pub count-told-reply : (b : List ℕ) (r : ℕ) → square (familyOf b) ≡ false → Told b r → refusal r ≡ reply (forGrid b (countAnswer b))
 count-told-reply b r e t = told-reply b r (countAnswer b) e t (count-told b (t .refusal) (known-told b (t .refusal) (t .answer)))
 
-pub sound-of : (b : List ℕ) (j : Job) → Kept b j → square (familyOf b) ≡ false → Sound j
-sound-of b j k e = record { job = k .job; stands = k .stands; grids = grids-of j (k .job) (k .stands) (ap square (k .family) ∙ e) }
+module _ (b : List ℕ) (j : Job) (k : Kept b j) (e : square (familyOf b) ≡ false) where
+  pub kept-grids : Grids (k .job)
+  kept-grids = grids-of j (k .job) (k .stands) (ap square (k .family) ∙ e)
 
-pub count-reply : (b : List ℕ) (J : rules.Job) (x : Reply ℕ) → square (familyOf b) ≡ false → jobAnswer b ≡ accepted J
-    → x ≡ reply (check (leb (countOf J) most) over (accepted (countOf J))) → x ≡ reply (forGrid b (countAnswer b))
+  pub sound-of : Sound j
+  sound-of = record { job = k .job; stands = k .stands; grids = kept-grids }
+
+  pub countable-of : {s : Shape} → ShapedFor j s → Countable s
+  countable-of w = record { job = k .job; range = stands-range j (k .job) (k .stands); grids = kept-grids; shaped = w (k .job) (k .stands) }
+
+pub count-reply : (b : List ℕ) (J : rules.Job) (x : Counted) → square (familyOf b) ≡ false → jobAnswer b ≡ accepted J
+    → CountsOf J x → countSays x ≡ reply (forGrid b (countAnswer b))
 count-reply b J x e a q = q ∙ rw e (ap reply (sym (count-fitted b J a)))
 
 -- ---- numbers
 
-pub number-over : (c : ℕ) (a : Answer ℕ) → 2 ^ 64 ≤ c → refusal 4 ≡ reply (check (leb c most) over a)
+pub number-over : (J : rules.Job) (e : List ℕ) → 2 ^ 64 ≤ countOf J → NumbersOf J e (NumberRefused 4)
 unfolding refusalNumber
-number-over c a l = rw (lt-leb c most (omega arith)) refl
+number-over J e l = rw (lt-leb (countOf J) most (omega arith)) refl
 
-pub number-none : (J : rules.Job) (e : List ℕ) → countOf J ≡ 0 → (Valid J e → ⊥) → refusal 5 ≡ reply (check (leb (countOf J) most) over (check (walks J origin e) not-an-edge (accepted (numberOf J e))))
+pub number-none : (J : rules.Job) (e : List ℕ) → countOf J ≡ 0 → (Valid J e → ⊥) → NumbersOf J e (NumberRefused 5)
 unfolding refusalNumber Valid
 number-none J e z n = rw (le-leb (countOf J) most (omega arith), is-false (walks J origin e) n) refl
 
--- the table's answer is the job's
-pub table-is : (J : rules.Job) (s : Shape) (e : List ℕ) → InRange J → Grids J → Working J s
-    → tableNumber (s .corner) (s .k) (s .f) (s .sa) (s .sc) (s .ex) (s .ey) e ≡ check (leb (countOf J) most) over (check (walks J origin e) not-an-edge (accepted (numberOf J e)))
-unfolding tableNumber
-table-is J s e r g w =
-    rw (shape-count J s r (w .fits), shape-edge J s g r (w .fits) e) (go (walks J origin e) refl)
-  where
-    n : ℕ
-    n = edges.numberOf (s .corner) (s .k) (s .f) (s .sa) (s .sc) (s .ex) (s .ey) e
+module _ (J : rules.Job) (s : Shape) (r : InRange J) (f : Fits J s) {p : Plan} (po : PlanOf s p) where
+  pub plan-count : walksFor p (s .sa) (s .sc) ≡ countOf J
+  plan-count = rw (po .k-is, po .f-is, po .ex-is, po .ey-is) (shape-count J s r f)
 
-    go : (t : Bool) → walks J origin e ≡ t
-        → check (leb (countOf J) most) over (check t not-an-edge (accepted n)) ≡ check (leb (countOf J) most) over (check t not-an-edge (accepted (numberOf J e)))
-    go true q = ap (λ (x : ℕ). check (leb (countOf J) most) over (accepted x)) (shape-number J s g r (w .fits) e (holds q))
-    go false q = refl
+  -- the table's answer is the job's
+  pub plan-number : Grids J → (e : List ℕ) (x : Numbered) → numberSays x ≡ reply (numberFor p (s .sa) (s .sc) e) → NumbersOf J e x
+  unfolding tableNumber
+  plan-number g e x h =
+      h ∙ rw (po .corner-is, po .k-is, po .f-is, po .ex-is, po .ey-is, shape-count J s r f, shape-edge J s g r f e) (ap reply (go (walks J origin e) refl))
+    where
+      n : ℕ
+      n = edges.numberOf (s .corner) (s .k) (s .f) (s .sa) (s .sc) (s .ex) (s .ey) e
+
+      go : (t : Bool) → walks J origin e ≡ t
+          → check (leb (countOf J) most) over (check t not-an-edge (accepted n)) ≡ check (leb (countOf J) most) over (check t not-an-edge (accepted (numberOf J e)))
+      go true q = ap (λ (x : ℕ). check (leb (countOf J) most) over (accepted x)) (shape-number J s g r f e (holds q))
+      go false q = refl
 
 pub number-told-reply : (b : List ℕ) (e : List ℕ) (r : ℕ) → square (familyOf b) ≡ false → Told b r → refusal r ≡ reply (forGrid b (numberAnswer b e))
 number-told-reply b s r e t = told-reply b r (numberAnswer b s) e t (number-told b s (t .refusal) (known-told b (t .refusal) (t .answer)))
 
-pub number-reply : (b : List ℕ) (s : List ℕ) (J : rules.Job) (x : Reply ℕ) → square (familyOf b) ≡ false → jobAnswer b ≡ accepted J
-    → x ≡ reply (check (leb (countOf J) most) over (check (walks J origin s) not-an-edge (accepted (numberOf J s)))) → x ≡ reply (forGrid b (numberAnswer b s))
-number-reply b s J x e a q = q ∙ rw e (ap reply (sym (number-fitted b s J a)))
+pub number-reply : (b : List ℕ) (e : List ℕ) (J : rules.Job) (x : Numbered) → square (familyOf b) ≡ false → jobAnswer b ≡ accepted J
+    → NumbersOf J e x → numberSays x ≡ reply (forGrid b (numberAnswer b e))
+number-reply b e J x h a q = q ∙ rw h (ap reply (sym (number-fitted b e J a)))
+
+-- the answer of the job's shape is the block's
+module _ (b : List ℕ) (j : Job) (k : Kept b j) (q : square (familyOf b) ≡ false) {s : Shape} (w : ShapedFor j s) where
+  pub count-shaped : (x : Counted) → CountsAs s x → countSays x ≡ reply (forGrid b (countAnswer b))
+  count-shaped x h = count-reply b (k .job) x q (k .answer) (h (k .job) (stands-range j (k .job) (k .stands)) (w (k .job) (k .stands)))
+
+  pub number-shaped : (e : List ℕ) (x : Numbered) → NumbersAs s e x → numberSays x ≡ reply (forGrid b (numberAnswer b e))
+  number-shaped e x h = number-reply b e (k .job) x q (k .answer) (h (k .job) (stands-range j (k .job) (k .stands)) (kept-grids b j k q) (w (k .job) (k .stands)))

@@ -17,4 +17,5 @@ pub mod Counted
 pub mod Tabled
 pub mod Worded
 pub mod Builds
+pub mod Corners
 pub mod Along

@@ -3,16 +3,13 @@
 --   stride-le                      an offset fits
 --   prepared-for, prepared-last    all that `fill` asks, for a size that has room and for the last one
 --   sizes-for                      bounds of the plan's numbers
---   count-at, number-at, builds-at what is said by the plan is said of the shape
 use mathlib.Core.Path.{_≡_, refl}
 use mathlib.Core.List.{List}
 use Prim.Native.Nat.{ℕ, _≤_}
 use native.Mathlib.Omega.{arith}
-use Rattle.job.specs.declared.Built.{Built}
 use Rattle.grid.specs.declared.plan.Plan.{Plan}
-use Rattle.grid.specs.declared.shape.Shape.{Shape}
 use Rattle.grid.specs.Table.{Offsets}
-use Rattle.grid.specs.Plans.{strideFor, cellsFor, SizesFor, Planned, PlanOf, PreparedFor, countFor, numberFor, BuildsFor, countAt, numberAt, BuildsAt}
+use Rattle.grid.specs.Plans.{strideFor, cellsFor, SizesFor, Planned, PreparedFor}
 use Rattle.grid.proofs.Prepare.{prepared}
 
 module _ {sa sc : List ℕ} {p : Plan} (pl : Planned sa sc p) where
@@ -29,13 +26,3 @@ module _ {sa sc : List ℕ} {p : Plan} (pl : Planned sa sc p) where
     -- the last size has room for every plan
     pub prepared-last : PreparedFor p sa sc off 3712
     prepared-last = prepared-for refl 3712 (sizes-for .cells)
-
-module _ {s : Shape} {p : Plan} (po : PlanOf s p) where
-  pub count-at : countFor p (s .sa) (s .sc) ≡ countAt s
-  count-at = rw (po .k-is, po .f-is, po .ex-is, po .ey-is) refl
-
-  pub number-at : (e : List ℕ) → numberFor p (s .sa) (s .sc) e ≡ numberAt s e
-  number-at e = rw (po .corner-is, po .k-is, po .f-is, po .ex-is, po .ey-is) refl
-
-  pub builds-at : (ns steps ends : List ℕ) (r : Built) (t u : List ℕ) → BuildsFor p (s .sa) (s .sc) ns steps ends t u r → BuildsAt s ns steps ends t u r
-  builds-at ns steps ends r t u b = rw (po .corner-is, po .k-is, po .f-is, po .ex-is, po .ey-is) at b

@@ -1,11 +1,13 @@
 -- What the calls of this crate answer: document 01's answer for families 1, 3, 6 and 7, and refusal 11 for 2, 4 and 5, which another crate
 -- answers.
 --
---   forGrid b a      the answer a to block b, or refusal 11
---   Countable s      the shape s is some job's
---   NumbersAs s e r  r says the number of the edge e of every such job, or refusal 4 or 5
---   edgesOf J ns     the edges of the numbers ns of a job, or refusal 4 or 6; BuildsAs: those edges written
---   CountsAs s r     r says the count of every job whose shape is s, or refusal 4
+--   forGrid b a        the answer a to block b, or refusal 11
+--   toldOf a           the count a, or refusal 4 where it needs more than 64 bits
+--   Countable s        the shape s is some job's
+--   CountsOf J r       r says the count of the job J, or refusal 4; CountsAs s r: of every job whose shape is s
+--   NumbersOf J e r    r says the number of the edge e of the job J, or refusal 4 or 5; NumbersAs s e r: of every such job
+--   edgesOf J ns       the edges of the numbers ns of the job J, or refusal 4 or 6
+--   BuildsOf J ns ..   those edges written; BuildsAs s ns ..: of every such job
 use mathlib.Core.Path.{_≡_}
 use mathlib.Core.List.{List, map}
 use Prim.Native.Nat.{ℕ}
@@ -24,11 +26,14 @@ use Rattle.rules.specs.Answers.{most}
 use Rattle.rules.specs.Questions.{allBelow}
 use Rattle.rules.specs.Ranges.{InRange}
 use Rattle.job.specs.declared.Counted.{Counted}
+use Rattle.job.specs.declared.Counted.the-variants.{Count as Counts, Refused}
 use Rattle.job.specs.declared.Numbered.{Numbered}
 use Rattle.job.specs.declared.Built.{Built}
 use Rattle.job.specs.Replies.{reply, countSays, numberSays}
 use Rattle.lines.specs.Lines.{lined, LinedAs}
 use Rattle.grid.specs.Shapes.{Grids, Shaped}
+use Rattle.grid.specs.declared.Answer as counts
+use Rattle.grid.specs.declared.Answer.the-variants.{Count, Over}
 use Rattle.grid.specs.declared.shape.Shape.{Shape}
 
 abbrev pub forGrid : {A : Type 0} → List ℕ → Answer A → Answer A
@@ -40,18 +45,28 @@ pub record Countable (s : Shape) : Type 0 where
   pub grids : Grids job
   pub shaped : Shaped job s
 
+abbrev pub toldOf : counts.Answer → Counted
+toldOf (Count c) = Counts c
+toldOf Over = Refused 4
+
+abbrev pub CountsOf : rules.Job → Counted → Type 0
+CountsOf J r = countSays r ≡ reply (check (leb (countOf J) most) over (accepted (countOf J)))
+
 abbrev pub CountsAs : Shape → Counted → Type 0
-CountsAs s r = (J : rules.Job) → InRange J → Shaped J s → countSays r ≡ reply (check (leb (countOf J) most) over (accepted (countOf J)))
+CountsAs s r = (J : rules.Job) → InRange J → Shaped J s → CountsOf J r
+
+abbrev pub NumbersOf : rules.Job → List ℕ → Numbered → Type 0
+NumbersOf J e r = numberSays r ≡ reply (check (leb (countOf J) most) over (check (walks J origin e) not-an-edge (accepted (numberOf J e))))
 
 abbrev pub NumbersAs : Shape → List ℕ → Numbered → Type 0
-NumbersAs s e r =
-    (J : rules.Job) → InRange J → Grids J → Shaped J s
-    → numberSays r ≡ reply (check (leb (countOf J) most) over (check (walks J origin e) not-an-edge (accepted (numberOf J e))))
+NumbersAs s e r = (J : rules.Job) → InRange J → Grids J → Shaped J s → NumbersOf J e r
 
--- the edges of the numbers ns of the job, or refusal 4 or 6
 abbrev pub edgesOf : rules.Job → List ℕ → Answer (List (List ℕ))
 edgesOf J ns = check (leb (countOf J) most) over (check (allBelow (countOf J) ns) beyond (accepted (map (edgeOf J) ns)))
 
+abbrev pub BuildsOf : rules.Job → List ℕ → List ℕ → List ℕ → List ℕ → List ℕ → Built → Type 0
+BuildsOf J ns steps ends after-steps after-ends r = LinedAs (lined (edgesOf J ns) steps ends) r after-steps after-ends
+
 abbrev pub BuildsAs : Shape → List ℕ → List ℕ → List ℕ → List ℕ → List ℕ → Built → Type 0
 BuildsAs s ns steps ends after-steps after-ends r =
-    (J : rules.Job) → InRange J → Grids J → Shaped J s → LinedAs (lined (edgesOf J ns) steps ends) r after-steps after-ends
+    (J : rules.Job) → InRange J → Grids J → Shaped J s → BuildsOf J ns steps ends after-steps after-ends r

@@ -5,6 +5,7 @@ pub mod Edges
 pub mod Heights
 pub mod Shapes
 pub mod Calls
+pub mod Corners
 pub mod Numbering
 pub mod Spelling
 pub mod Plans

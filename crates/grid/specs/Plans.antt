@@ -10,7 +10,6 @@
 --   walksFor p sa sc                  how many walks lead to the end
 --   countFor, numberFor p sa sc e     the count by a plan, and the number of the edge e; validFor, rankFor: whether it is one, and its number if so
 --   edgeFor p sa sc r                 the edge of the number r; ListsFor, BuildsFor: those of the numbers ns written, and those or refusal 4 or 6
---   countAt, numberAt, BuildsAt s     the same of the shape s
 --   RoomFor ns steps ends             there is room for the edges of the numbers ns
 use mathlib.Core.Path.{_≡_}
 use mathlib.Core.Bool.{Bool}
@@ -98,16 +97,6 @@ ListsFor p sa sc ns steps ends after-steps after-ends at =
 abbrev pub BuildsFor : Plan → List ℕ → List ℕ → List ℕ → List ℕ → List ℕ → List ℕ → List ℕ → Built → Type 0
 BuildsFor p sa sc ns steps ends after-steps after-ends r =
     LinedAs (lined (edgesFor (p .corner) (p .k) (p .f) sa sc (p .ex) (p .ey) ns) steps ends) r after-steps after-ends
-
-abbrev pub countAt : Shape → counts.Answer
-countAt s = capOf (W (s .k) (s .f) (s .sa) (s .sc) (s .ex) (s .ey))
-
-abbrev pub numberAt : Shape → List ℕ → Answer ℕ
-numberAt s e = tableNumber (s .corner) (s .k) (s .f) (s .sa) (s .sc) (s .ex) (s .ey) e
-
-abbrev pub BuildsAt : Shape → List ℕ → List ℕ → List ℕ → List ℕ → List ℕ → Built → Type 0
-BuildsAt s ns steps ends after-steps after-ends r =
-    LinedAs (lined (edgesFor (s .corner) (s .k) (s .f) (s .sa) (s .sc) (s .ex) (s .ey) ns) steps ends) r after-steps after-ends
 
 abbrev pub RoomFor : List ℕ → List ℕ → List ℕ → Type 0
 RoomFor ns steps ends = Room (length ns) (length steps) (length ends)

@@ -8,11 +8,8 @@
 --   FormOf s            the shape s is one that the table can be filled for
 --   Shows G q s         the shape s shows the grid G with the end q: slid down, or mirrored
 --   Fits J s            the shape s has the letters of the job, and shows its grid and its end
---   Shaped J s          s says all of the job: its steps and end, that its count needs more than 64 bits, or that nothing leads to its end
+--   Shaped J s          s says all of the job: its steps and end, or that nothing leads to its end
 --   ShapedFor j s       the same, of the job that j stands for
---   cornerState n m     1 where n and m are above 33
---   cornerWith          a shape of families 1 (d false) and 3 (d true): its end at height ey, N going up by north and E by east
---   cornerShape n m d   their shape, mirrored where n is below m
 --   Ranged j            the ranges of families 6 and 7
 --   Laying, Laid j f s  their own steps so far; their own shape, with each height as in the job's own grid
 --   Gentle s            the shape s has steps as those families have, and can be lowered
@@ -21,12 +18,12 @@
 --   View t d s          what s must be to be slid down by d, or mirrored at d where t
 --   Chosen j f r        the shape r of families 6 and 7
 use mathlib.Core.Path.{_≡_}
-use mathlib.Core.Bool.{Bool, true, false, _&&_}
-use mathlib.Core.List.{List, [], _∷_}
-use Prim.Native.Nat.{ℕ, _+_, _*_, _-_, _^_, _≤_, _<_}
+use mathlib.Core.Bool.{Bool, true, false}
+use mathlib.Core.List.{List}
+use Prim.Native.Nat.{ℕ, _+_, _*_, _-_, _≤_, _<_}
 use lib.Dec.{T, ltb}
 use lib.ListN.{length, getD}
-use Rattle.howmany.specs.Choose.{pick, bit}
+use Rattle.howmany.specs.Choose.{bit}
 use Rattle.backward.specs.Grid.{Spot, Steps}
 use Rattle.backward.specs.Shears.{Slid, Lower, Mirrored, Across}
 use Rattle.rules.specs.Jobs as rules
@@ -91,42 +88,11 @@ pub record Fits (J : rules.Job) (s : Shape) : Type 0 where
 
 pub data Shaped (J : rules.Job) (s : Shape) : Type 0 where
   worked : s .state ≡ 0 → FormOf s → Fits J s → Shaped J s
-  over : s .state ≡ 1 → 2 ^ 64 ≤ countOf J → Shaped J s
-  nothing : s .state ≡ 2 → countOf J ≡ 0 → ((e : List ℕ) → Valid J e → ⊥) → Shaped J s
+  nothing : s .state ≡ 1 → countOf J ≡ 0 → ((e : List ℕ) → Valid J e → ⊥) → Shaped J s
 
 -- whatever job the held job j stands for
 abbrev pub ShapedFor : Job → Shape → Type 0
 ShapedFor j s = (J : rules.Job) → Stands j J → Shaped J s
-
-abbrev pub cornerState : ℕ → ℕ → ℕ
-cornerState n m = bit (ltb 33 n && ltb 33 m)
-
-abbrev pub cornerWith : ℕ → ℕ → ℕ → ℕ → ℕ → Bool → Shape
-cornerWith n m ey north east true = record {
-  state = cornerState n m;
-  corner = true;
-  k = 3;
-  f = 0;
-  top = 1;
-  ex = n + m;
-  ey = ey;
-  sa = 1 ∷ 1 ∷ 2 ∷ 100 ∷ 100 ∷ 100 ∷ 100 ∷ 100 ∷ [];
-  sc = north ∷ east ∷ 1 ∷ 0 ∷ 0 ∷ 0 ∷ 0 ∷ 0 ∷ [];
-}
-cornerWith n m ey north east false = record {
-  state = cornerState n m;
-  corner = true;
-  k = 2;
-  f = 0;
-  top = 1;
-  ex = n + m;
-  ey = ey;
-  sa = 1 ∷ 1 ∷ 100 ∷ 100 ∷ 100 ∷ 100 ∷ 100 ∷ 100 ∷ [];
-  sc = north ∷ east ∷ 0 ∷ 0 ∷ 0 ∷ 0 ∷ 0 ∷ 0 ∷ [];
-}
-
-abbrev pub cornerShape : ℕ → ℕ → Bool → Shape
-cornerShape n m d = pick (ltb n m) (cornerWith n m n 0 1 d) (cornerWith n m m 1 0 d)
 
 pub record Ranged (j : Job) : Type 0 where
   pub n-most : j .n ≤ 32
@@ -148,7 +114,7 @@ pub record Laying (a b sa sc : List ℕ) (i : ℕ) : Type 0 where
   pub flat : (j : ℕ) → i ≤ j → j < 8 → getD sc j 0 ≡ 0
 
 pub record Laid (j : Job) (f : ℕ) (s : Shape) : Type 0 where
-  pub state-is : s .state ≡ pick (ltb (j .m + 3 * j .n) 128) 2 0
+  pub state-is : s .state ≡ bit (ltb (j .m + 3 * j .n) 128)
   pub corner-is : s .corner ≡ false
   pub k-is : s .k ≡ j .k
   pub f-is : s .f ≡ f
@@ -173,7 +139,7 @@ pub data Beyond (G : Steps) (q : Spot) : Type 0 where
 
 pub data Lowered (s r : Shape) : Type 0 where
   reached : r .state ≡ 0 → r .corner ≡ s .corner → FormOf r → Shows (stepsAt s) (endAt s) r → Lowered s r
-  unreached : r .state ≡ 2 → Beyond (stepsAt s) (endAt s) → Lowered s r
+  unreached : r .state ≡ 1 → Beyond (stepsAt s) (endAt s) → Lowered s r
 
 -- a mirror's slope is no less than the fence's; the end comes to lie no higher than 3 · 32
 pub record View (t : Bool) (d : ℕ) (s : Shape) : Type 0 where
@@ -185,5 +151,5 @@ pub record View (t : Bool) (d : ℕ) (s : Shape) : Type 0 where
 
 -- no height of the job's own grid is below 0, so nothing leads to an end that is
 pub data Chosen (j : Job) (f : ℕ) (r : Shape) : Type 0 where
-  sunk : Laid j f r → r .state ≡ 2 → Chosen j f r
+  sunk : Laid j f r → r .state ≡ 1 → Chosen j f r
   lowered : (s : Shape) → Laid j f s → s .state ≡ 0 → Lowered s r → Chosen j f r

@@ -5,10 +5,12 @@ ghost use Rattle.rules.specs.Answers.{countAnswer, numberAnswer};
 ghost use Rattle.rules.specs.Questions.{edgesAnswer};
 ghost use Rattle.job.specs.Replies.{reply, countSays, numberSays};
 ghost use Rattle.lines.specs.Lines.{lines, LinedAs, Room};
-ghost use Rattle.grid.specs.Calls.{forGrid, BuildsAs, Countable, CountsAs, NumbersAs};
+ghost use Rattle.grid.specs.Calls.{forGrid, toldOf, BuildsAs, BuildsOf, Countable, CountsAs, CountsOf, NumbersAs, NumbersOf};
+ghost use Rattle.grid.specs.Corners.{cornerJob, Within};
 
 mod column;
 mod cone;
+mod corner;
 mod counting;
 mod edges;
 mod flags;
@@ -20,10 +22,12 @@ mod shape;
 mod spelling;
 mod table;
 
+use corner::Corner;
 use job::Built;
 use job::Counted;
 use job::Job;
 use job::Numbered;
+use plan::plan_of;
 use shape::Shape;
 
 // A count, or that it needs more than 64 bits.
@@ -45,8 +49,34 @@ pub fn count(block: &[u8]) -> Counted
         return Counted::Refused(refusal);
     }
     let job = made.job;
+    if job.family < 6 {
+        let c = corner::corner_of(job);
+        return count_corner(c);
+    }
     let s = shape::shape_of(job);
     count_shape(s)
+}
+
+fn told(a: Answer) -> Counted
+    ensures { λ r. ⌜ r ≡ toldOf a ⌝ }
+{
+    match a {
+        Answer::Count(c) => Counted::Count(c),
+        Answer::Over => Counted::Refused(4),
+    }
+}
+
+fn count_corner(c: Corner) -> Counted
+    requires { ⌜ Within c ⌝ }
+    ensures { λ r. ⌜ CountsOf (cornerJob c) r ⌝ }
+{
+    let p = corner::plan(c);
+    if corner::MOST < p.ey {
+        return Counted::Refused(4);
+    }
+    let sa = corner::right(c);
+    let sc = corner::up(c);
+    told(counting::count(&sa, &sc, p))
 }
 
 fn count_shape(s: Shape) -> Counted
@@ -55,15 +85,12 @@ fn count_shape(s: Shape) -> Counted
 {
     let state = s.state;
     if state == 1 {
-        return Counted::Refused(4);
-    }
-    if state == 2 {
         return Counted::Count(0);
     }
-    match counting::count(s) {
-        Answer::Count(c) => Counted::Count(c),
-        Answer::Over => Counted::Refused(4),
-    }
+    let p = plan_of(s);
+    let sa = s.sa;
+    let sc = s.sc;
+    told(counting::count(&sa, &sc, p))
 }
 
 // The number of an edge of a job of family 1, 3, 6 or 7 (000, algorithms 1 and 5; 001, algorithm 7).
@@ -79,8 +106,25 @@ pub fn number(block: &[u8], edge: &[u8]) -> Numbered
         return Numbered::Refused(refusal);
     }
     let job = made.job;
+    if job.family < 6 {
+        let c = corner::corner_of(job);
+        return number_corner(c, edge);
+    }
     let s = shape::shape_of(job);
     number_shape(s, edge)
+}
+
+fn number_corner(c: Corner, edge: &[u8]) -> Numbered
+    requires { ⌜ Within c ⌝ }
+    ensures { λ r. ⌜ NumbersOf (cornerJob c) (now (edge .entry)) r ⌝ }
+{
+    let p = corner::plan(c);
+    if corner::MOST < p.ey {
+        return Numbered::Refused(4);
+    }
+    let sa = corner::right(c);
+    let sc = corner::up(c);
+    numbering::number(&sa, &sc, p, edge)
 }
 
 fn number_shape(s: Shape, edge: &[u8]) -> Numbered
@@ -89,12 +133,12 @@ fn number_shape(s: Shape, edge: &[u8]) -> Numbered
 {
     let state = s.state;
     if state == 1 {
-        return Numbered::Refused(4);
-    }
-    if state == 2 {
         return Numbered::Refused(5);
     }
-    numbering::number(s, edge)
+    let p = plan_of(s);
+    let sa = s.sa;
+    let sc = s.sc;
+    numbering::number(&sa, &sc, p, edge)
 }
 
 // The edges of a list of numbers, one after the other, and where each ends (000, algorithms 2 and 6; 001, algorithm 8).
@@ -113,8 +157,25 @@ pub fn build_all(block: &[u8], numbers: &[u64], steps: &mut [u8], ends: &mut [us
         return Built::Refused(refusal);
     }
     let job = made.job;
+    if job.family < 6 {
+        let c = corner::corner_of(job);
+        return build_corner(c, numbers, steps, ends);
+    }
     let s = shape::shape_of(job);
     build_shape(s, numbers, steps, ends)
+}
+
+fn build_corner(c: Corner, numbers: &[u64], steps: &mut [u8], ends: &mut [usize]) -> Built
+    requires { ⌜ Within c × Room (length (now numbers)) (length (now steps)) (length (now ends)) ⌝ }
+    ensures { λ r. ⌜ BuildsOf (cornerJob c) (now (numbers .entry)) (now (steps .entry)) (now (ends .entry)) (now (steps .exit)) (now (ends .exit)) r ⌝ }
+{
+    let p = corner::plan(c);
+    if corner::MOST < p.ey {
+        return Built::Refused(4);
+    }
+    let sa = corner::right(c);
+    let sc = corner::up(c);
+    spelling::spell_edges(&sa, &sc, p, numbers, steps, ends)
 }
 
 fn build_shape(s: Shape, numbers: &[u64], steps: &mut [u8], ends: &mut [usize]) -> Built
@@ -123,13 +184,13 @@ fn build_shape(s: Shape, numbers: &[u64], steps: &mut [u8], ends: &mut [usize]) 
 {
     let state = s.state;
     if state == 1 {
-        return Built::Refused(4);
-    }
-    if state == 2 {
         if numbers.len() != 0 {
             return Built::Refused(6);
         }
         return Built::Length(0);
     }
-    spelling::spell_edges(s, numbers, steps, ends)
+    let p = plan_of(s);
+    let sa = s.sa;
+    let sc = s.sc;
+    spelling::spell_edges(&sa, &sc, p, numbers, steps, ends)
 }

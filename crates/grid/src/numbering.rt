@@ -1,16 +1,13 @@
 // The number of an edge: the table is filled once, so that refusal 4 goes before 5, and then the edge is read from its end.
 ghost use mathlib.Core.Path.{_≡_};
 ghost use Rattle.job.specs.Replies.{reply, numberSays};
-ghost use Rattle.grid.specs.Shapes.{FormOf};
-ghost use Rattle.grid.specs.Plans.{FormFor, PreparedFor, numberFor, numberAt};
+ghost use Rattle.grid.specs.Plans.{FormFor, Planned, PreparedFor, numberFor};
 ghost use Rattle.grid.specs.Filling.{Begun};
 use crate::Answer;
 use crate::edges::read;
 use crate::plan::Plan;
 use crate::plan::cells_of;
 use crate::plan::offsets;
-use crate::plan::plan_of;
-use crate::shape::Shape;
 use crate::table::fill;
 use job::Numbered;
 
@@ -30,6 +27,14 @@ fn number_in(
         return Numbered::Refused(4);
     }
     read(val, sa, sc, off, p, edge)
+}
+
+fn number_128(sa: &[usize; 8], sc: &[usize; 8], off: &[usize; 8], p: Plan, edge: &[u8]) -> Numbered
+    requires { ⌜ PreparedFor p (now sa) (now sc) (now off) 128 × FormFor p (now sa) (now sc) ⌝ }
+    ensures { λ r. ⌜ numberSays r ≡ reply (numberFor p (now (sa .entry)) (now (sc .entry)) (now (edge .entry))) ⌝ }
+{
+    let mut val = [0u64; 128];
+    number_in(&mut val, sa, sc, off, p, edge)
 }
 
 fn number_384(sa: &[usize; 8], sc: &[usize; 8], off: &[usize; 8], p: Plan, edge: &[u8]) -> Numbered
@@ -64,24 +69,24 @@ fn number_3712(sa: &[usize; 8], sc: &[usize; 8], off: &[usize; 8], p: Plan, edge
     number_in(&mut val, sa, sc, off, p, edge)
 }
 
-// The number of the edge, in a table of the smallest of four sizes that has room.
-pub(crate) fn number(s: Shape, edge: &[u8]) -> Numbered
-    requires { ⌜ FormOf s ⌝ }
-    ensures { λ r. ⌜ numberSays r ≡ reply (numberAt s (now (edge .entry))) ⌝ }
+// The number of the edge, in a table of the smallest of five sizes that has room.
+pub(crate) fn number(sa: &[usize; 8], sc: &[usize; 8], p: Plan, edge: &[u8]) -> Numbered
+    requires { ⌜ Planned (now sa) (now sc) p ⌝ }
+    ensures { λ r. ⌜ numberSays r ≡ reply (numberFor p (now (sa .entry)) (now (sc .entry)) (now (edge .entry))) ⌝ }
 {
-    let p = plan_of(s);
-    let sa = s.sa;
-    let sc = s.sc;
-    let off = offsets(&sa, &sc, p);
+    let off = offsets(sa, sc, p);
     let cells = cells_of(p);
+    if cells <= 128 {
+        return number_128(sa, sc, &off, p, edge);
+    }
     if cells <= 384 {
-        return number_384(&sa, &sc, &off, p, edge);
+        return number_384(sa, sc, &off, p, edge);
     }
     if cells <= 1280 {
-        return number_1280(&sa, &sc, &off, p, edge);
+        return number_1280(sa, sc, &off, p, edge);
     }
     if cells <= 2496 {
-        return number_2496(&sa, &sc, &off, p, edge);
+        return number_2496(sa, sc, &off, p, edge);
     }
-    number_3712(&sa, &sc, &off, p, edge)
+    number_3712(sa, sc, &off, p, edge)
 }

@@ -4,17 +4,14 @@ ghost use mathlib.Core.Bool.{true};
 ghost use Prim.Native.Nat.{_≤_, _<_};
 ghost use lib.ListN.{length};
 ghost use Rattle.rules.specs.Questions.{allBelow};
-ghost use Rattle.grid.specs.Shapes.{FormOf};
 ghost use Rattle.grid.specs.Spelling.{Front};
 ghost use Rattle.grid.specs.Filling.{Begun, Full};
-ghost use Rattle.grid.specs.Plans.{PreparedFor, walksFor, RoomFor, edgeFor, ListsFor, BuildsFor, BuildsAt};
+ghost use Rattle.grid.specs.Plans.{Planned, PreparedFor, walksFor, RoomFor, edgeFor, ListsFor, BuildsFor};
 use crate::Answer;
 use crate::edges::spell;
 use crate::plan::Plan;
 use crate::plan::cells_of;
 use crate::plan::offsets;
-use crate::plan::plan_of;
-use crate::shape::Shape;
 use crate::table::fill;
 use job::Built;
 
@@ -85,6 +82,22 @@ fn spell_in(
     Built::Length(spell_all(val, sa, sc, off, p, numbers, steps, ends))
 }
 
+fn spell_128(
+    sa: &[usize; 8],
+    sc: &[usize; 8],
+    off: &[usize; 8],
+    p: Plan,
+    numbers: &[u64],
+    steps: &mut [u8],
+    ends: &mut [usize],
+) -> Built
+    requires { ⌜ PreparedFor p (now sa) (now sc) (now off) 128 × RoomFor (now numbers) (now steps) (now ends) ⌝ }
+    ensures { λ r. ⌜ BuildsFor p (now (sa .entry)) (now (sc .entry)) (now (numbers .entry)) (now (steps .entry)) (now (ends .entry)) (now (steps .exit)) (now (ends .exit)) r ⌝ }
+{
+    let mut val = [0u64; 128];
+    spell_in(&mut val, sa, sc, off, p, numbers, steps, ends)
+}
+
 fn spell_384(
     sa: &[usize; 8],
     sc: &[usize; 8],
@@ -149,24 +162,31 @@ fn spell_3712(
     spell_in(&mut val, sa, sc, off, p, numbers, steps, ends)
 }
 
-// The edges, over a table of the smallest of four sizes that has room.
-pub(crate) fn spell_edges(s: Shape, numbers: &[u64], steps: &mut [u8], ends: &mut [usize]) -> Built
-    requires { ⌜ FormOf s × RoomFor (now numbers) (now steps) (now ends) ⌝ }
-    ensures { λ r. ⌜ BuildsAt s (now (numbers .entry)) (now (steps .entry)) (now (ends .entry)) (now (steps .exit)) (now (ends .exit)) r ⌝ }
+// The edges, over a table of the smallest of five sizes that has room.
+pub(crate) fn spell_edges(
+    sa: &[usize; 8],
+    sc: &[usize; 8],
+    p: Plan,
+    numbers: &[u64],
+    steps: &mut [u8],
+    ends: &mut [usize],
+) -> Built
+    requires { ⌜ Planned (now sa) (now sc) p × RoomFor (now numbers) (now steps) (now ends) ⌝ }
+    ensures { λ r. ⌜ BuildsFor p (now (sa .entry)) (now (sc .entry)) (now (numbers .entry)) (now (steps .entry)) (now (ends .entry)) (now (steps .exit)) (now (ends .exit)) r ⌝ }
 {
-    let p = plan_of(s);
-    let sa = s.sa;
-    let sc = s.sc;
-    let off = offsets(&sa, &sc, p);
+    let off = offsets(sa, sc, p);
     let cells = cells_of(p);
+    if cells <= 128 {
+        return spell_128(sa, sc, &off, p, numbers, steps, ends);
+    }
     if cells <= 384 {
-        return spell_384(&sa, &sc, &off, p, numbers, steps, ends);
+        return spell_384(sa, sc, &off, p, numbers, steps, ends);
     }
     if cells <= 1280 {
-        return spell_1280(&sa, &sc, &off, p, numbers, steps, ends);
+        return spell_1280(sa, sc, &off, p, numbers, steps, ends);
     }
     if cells <= 2496 {
-        return spell_2496(&sa, &sc, &off, p, numbers, steps, ends);
+        return spell_2496(sa, sc, &off, p, numbers, steps, ends);
     }
-    spell_3712(&sa, &sc, &off, p, numbers, steps, ends)
+    spell_3712(sa, sc, &off, p, numbers, steps, ends)
 }

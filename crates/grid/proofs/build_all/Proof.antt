@@ -1,13 +1,12 @@
--- `grid::build_all` meets its contract: by room, by family, by the job maker's answer, and by the job's shape. Assumes nothing.
-use mathlib.Core.Path.{sym, ap, _∙_}
+-- `grid::build_all` meets its contract: by room, by family, by the job maker's answer, and by the job's corner or shape. Assumes nothing.
+use mathlib.Core.Path.{sym, _∙_}
 use native.Mathlib.Omega.{arith}
 use borrow.Author.Tests.{not-true, not-false}
-use Rattle.rules.specs.Blocks.{square}
 use Rattle.job.proofs.Standing.{kept-of, told-of}
 use Rattle.lines.proofs.Lining.{room-of, lines-short, lines-room}
-use Rattle.grid.proofs.Grounds.{grids-of, stands-range}
-use Rattle.grid.proofs.Counted.{sound-of}
-use Rattle.grid.proofs.Builds.{build-square, build-told, build-reply}
+use Rattle.grid.proofs.Counted.{sound-of, countable-of}
+use Rattle.grid.proofs.Builds.{build-square, build-told, build-reply, build-shaped}
+use Rattle.grid.proofs.Corners.{corner-level, corner-answer}
 use borrow.Author.Needs.{needs}
 use Rattle.grid.proofs.build_all.Statement.{statement}
 use Rattle.grid.proofs.build_all.Tie as tie
@@ -16,25 +15,30 @@ has-room-requires : tie.Need-has-room-requires
 has-room-requires c κs = search needs
 
 returns : tie.Need-returns
-returns c = lines-short _ (c .before .before .before .before .before .before .args .numbers .now) _ _ (sym (c .before .has-room .ensures) ∙ not-true _ (c .if1 .taken))
+returns c =
+    lines-short _ (c .before .before .before .before .before .before .args .numbers .now) _ _ (sym (c .before .has-room .ensures) ∙ not-true _ (c .if1 .taken))
 
 is-square-requires : tie.Need-is-square-requires
 is-square-requires c κs = search needs
 
 returns-2 : tie.Need-returns-2
-returns-2 c = lines-room _ (c .before .before .before .before .before .before .before .before .args .numbers .now) _ _ _ _ _ (sym (c .before .before .before .has-room .ensures) ∙ not-false _ (c .before .before .if1 .left)) (build-square (c .before .before .before .before .before .before .before .before .args .block .now) (c .before .before .before .before .before .before .before .before .args .numbers .now) _ _ (sym (c .before .is-square .ensures) ∙ c .if2 .taken))
+returns-2 c =
+    lines-room _ (c .before .before .before .before .before .before .before .before .args .numbers .now) _ _ _ _ _ (sym (c .before .before .before .has-room .ensures) ∙ not-false _ (c .before .before .if1 .left)) (build-square (c .before .before .before .before .before .before .before .before .args .block .now) (c .before .before .before .before .before .before .before .before .args .numbers .now) _ _ (sym (c .before .is-square .ensures) ∙ c .if2 .taken))
 
 of-requires : tie.Need-of-requires
 of-requires c κs = search needs
 
 returns-3 : tie.Need-returns-3
-returns-3 c = lines-room _ (c .before .before .before .before .before .before .before .before .before .before .args .numbers .now) _ _ _ _ _ (sym (c .before .before .before .before .before .has-room .ensures) ∙ not-false _ (c .before .before .before .before .if1 .left)) (build-told (c .before .before .before .before .before .before .before .before .before .before .args .block .now) (c .before .before .before .before .before .before .before .before .before .before .args .numbers .now) _ _ _ (sym (c .before .before .before .is-square .ensures) ∙ c .before .before .if2 .left) (told-of (c .before .before .before .before .before .before .before .before .before .before .args .block .now) (c .before .of .result) (c .before .of .ensures) (c .if3 .taken)))
+returns-3 c =
+    lines-room _ (c .before .before .before .before .before .before .before .before .before .before .args .numbers .now) _ _ _ _ _ (sym (c .before .before .before .before .before .has-room .ensures) ∙ not-false _ (c .before .before .before .before .if1 .left)) (build-told (c .before .before .before .before .before .before .before .before .before .before .args .block .now) (c .before .before .before .before .before .before .before .before .before .before .args .numbers .now) _ _ _ (sym (c .before .before .before .is-square .ensures) ∙ c .before .before .if2 .left) (told-of (c .before .before .before .before .before .before .before .before .before .before .args .block .now) (c .before .of .result) (c .before .of .ensures) (c .if3 .taken)))
 
-shape-of-requires : tie.Need-shape-of-requires
-shape-of-requires c κs = sound-of (c .before .before .before .before .before .before .before .before .before .before .before .args .block .now) _ (kept-of (c .before .before .before .before .before .before .before .before .before .before .before .args .block .now) (c .before .before .of .result) (λ i. omega (arith, c .before .before .before .before .before .before .before .before .before .before .shared-slice-known .given i)) (c .before .before .of .ensures) (c .before .if3 .left)) (sym (c .before .before .before .before .is-square .ensures) ∙ c .before .before .before .if2 .left)
+corner-of-requires : tie.Need-corner-of-requires
+corner-of-requires c κs =
+    corner-level _ (sound-of (c .before .before .before .before .before .before .before .before .before .before .before .before .before .args .block .now) (c .before .before .before .before .of .result .job) (kept-of (c .before .before .before .before .before .before .before .before .before .before .before .before .before .args .block .now) (c .before .before .before .before .of .result) (λ i. omega (arith, c .before .before .before .before .before .before .before .before .before .before .before .before .shared-slice-known .given i)) (c .before .before .before .before .of .ensures) (c .before .before .before .if3 .left)) (sym (c .before .before .before .before .before .before .is-square .ensures) ∙ c .before .before .before .before .before .if2 .left)) (c .if4 .taken) .m-least
 
-build-shape-requires : tie.Need-build-shape-requires
-build-shape-requires c κs = (record { job = (kept-of (c .before .before .before .before .before .before .before .before .before .before .before .before .before .before .args .block .now) (c .before .before .before .before .before .of .result) (λ i. omega (arith, c .before .before .before .before .before .before .before .before .before .before .before .before .before .shared-slice-known .given i)) (c .before .before .before .before .before .of .ensures) (c .before .before .before .before .if3 .left)) .job; range = stands-range _ _ ((kept-of (c .before .before .before .before .before .before .before .before .before .before .before .before .before .before .args .block .now) (c .before .before .before .before .before .of .result) (λ i. omega (arith, c .before .before .before .before .before .before .before .before .before .before .before .before .before .shared-slice-known .given i)) (c .before .before .before .before .before .of .ensures) (c .before .before .before .before .if3 .left)) .stands); grids = (grids-of _ _ ((kept-of (c .before .before .before .before .before .before .before .before .before .before .before .before .before .before .args .block .now) (c .before .before .before .before .before .of .result) (λ i. omega (arith, c .before .before .before .before .before .before .before .before .before .before .before .before .before .shared-slice-known .given i)) (c .before .before .before .before .before .of .ensures) (c .before .before .before .before .if3 .left)) .stands) (ap square ((kept-of (c .before .before .before .before .before .before .before .before .before .before .before .before .before .before .args .block .now) (c .before .before .before .before .before .of .result) (λ i. omega (arith, c .before .before .before .before .before .before .before .before .before .before .before .before .before .shared-slice-known .given i)) (c .before .before .before .before .before .of .ensures) (c .before .before .before .before .if3 .left)) .family) ∙ (sym (c .before .before .before .before .before .before .before .is-square .ensures) ∙ c .before .before .before .before .before .before .if2 .left))); shaped = c .before .before .shape-of .ensures _ ((kept-of (c .before .before .before .before .before .before .before .before .before .before .before .before .before .before .args .block .now) (c .before .before .before .before .before .of .result) (λ i. omega (arith, c .before .before .before .before .before .before .before .before .before .before .before .before .before .shared-slice-known .given i)) (c .before .before .before .before .before .of .ensures) (c .before .before .before .before .if3 .left)) .stands) }, room-of _ _ _ (sym (c .before .before .before .before .before .before .before .before .before .has-room .ensures) ∙ not-false _ (c .before .before .before .before .before .before .before .before .if1 .left)))
+build-corner-requires : tie.Need-build-corner-requires
+build-corner-requires c κs =
+    (rw (c .before .before .corner-of .ensures) (corner-level _ (sound-of (c .before .before .before .before .before .before .before .before .before .before .before .before .before .before .before .before .args .block .now) (c .before .before .before .before .before .before .before .of .result .job) (kept-of (c .before .before .before .before .before .before .before .before .before .before .before .before .before .before .before .before .args .block .now) (c .before .before .before .before .before .before .before .of .result) (λ i. omega (arith, c .before .before .before .before .before .before .before .before .before .before .before .before .before .before .before .shared-slice-known .given i)) (c .before .before .before .before .before .before .before .of .ensures) (c .before .before .before .before .before .before .if3 .left)) (sym (c .before .before .before .before .before .before .before .before .before .is-square .ensures) ∙ c .before .before .before .before .before .before .before .before .if2 .left)) (c .before .before .before .if4 .taken) .within), room-of _ _ _ (sym (c .before .before .before .before .before .before .before .before .before .before .before .has-room .ensures) ∙ not-false _ (c .before .before .before .before .before .before .before .before .before .before .if1 .left)))
 
 same-length : tie.Need-same-length
 same-length c = search needs
@@ -43,7 +47,26 @@ same-length-2 : tie.Need-same-length-2
 same-length-2 c = search needs
 
 returns-4 : tie.Need-returns-4
-returns-4 c = lines-room _ (c .before .before .before .before .before .before .before .before .before .before .before .before .before .before .before .before .before .before .before .args .numbers .now) _ _ _ _ _ (sym (c .before .before .before .before .before .before .before .before .before .before .before .before .before .before .has-room .ensures) ∙ not-false _ (c .before .before .before .before .before .before .before .before .before .before .before .before .before .if1 .left)) (build-reply (c .before .before .before .before .before .before .before .before .before .before .before .before .before .before .before .before .before .before .before .args .block .now) (c .before .before .before .before .before .before .before .before .before .before .before .before .before .before .before .before .before .before .before .args .numbers .now) _ _ ((kept-of (c .before .before .before .before .before .before .before .before .before .before .before .before .before .before .before .before .before .before .before .args .block .now) (c .before .before .before .before .before .before .before .before .before .before .of .result) (λ i. omega (arith, c .before .before .before .before .before .before .before .before .before .before .before .before .before .before .before .before .before .before .shared-slice-known .given i)) (c .before .before .before .before .before .before .before .before .before .before .of .ensures) (c .before .before .before .before .before .before .before .before .before .if3 .left)) .job) _ _ _ (sym (c .before .before .before .before .before .before .before .before .before .before .before .before .is-square .ensures) ∙ c .before .before .before .before .before .before .before .before .before .before .before .if2 .left) ((kept-of (c .before .before .before .before .before .before .before .before .before .before .before .before .before .before .before .before .before .before .before .args .block .now) (c .before .before .before .before .before .before .before .before .before .before .of .result) (λ i. omega (arith, c .before .before .before .before .before .before .before .before .before .before .before .before .before .before .before .before .before .before .shared-slice-known .given i)) (c .before .before .before .before .before .before .before .before .before .before .of .ensures) (c .before .before .before .before .before .before .before .before .before .if3 .left)) .answer) (c .before .before .before .before .build-shape .ensures ((kept-of (c .before .before .before .before .before .before .before .before .before .before .before .before .before .before .before .before .before .before .before .args .block .now) (c .before .before .before .before .before .before .before .before .before .before .of .result) (λ i. omega (arith, c .before .before .before .before .before .before .before .before .before .before .before .before .before .before .before .before .before .before .shared-slice-known .given i)) (c .before .before .before .before .before .before .before .before .before .before .of .ensures) (c .before .before .before .before .before .before .before .before .before .if3 .left)) .job) (stands-range _ _ ((kept-of (c .before .before .before .before .before .before .before .before .before .before .before .before .before .before .before .before .before .before .before .args .block .now) (c .before .before .before .before .before .before .before .before .before .before .of .result) (λ i. omega (arith, c .before .before .before .before .before .before .before .before .before .before .before .before .before .before .before .before .before .before .shared-slice-known .given i)) (c .before .before .before .before .before .before .before .before .before .before .of .ensures) (c .before .before .before .before .before .before .before .before .before .if3 .left)) .stands)) (grids-of _ _ ((kept-of (c .before .before .before .before .before .before .before .before .before .before .before .before .before .before .before .before .before .before .before .args .block .now) (c .before .before .before .before .before .before .before .before .before .before .of .result) (λ i. omega (arith, c .before .before .before .before .before .before .before .before .before .before .before .before .before .before .before .before .before .before .shared-slice-known .given i)) (c .before .before .before .before .before .before .before .before .before .before .of .ensures) (c .before .before .before .before .before .before .before .before .before .if3 .left)) .stands) (ap square ((kept-of (c .before .before .before .before .before .before .before .before .before .before .before .before .before .before .before .before .before .before .before .args .block .now) (c .before .before .before .before .before .before .before .before .before .before .of .result) (λ i. omega (arith, c .before .before .before .before .before .before .before .before .before .before .before .before .before .before .before .before .before .before .shared-slice-known .given i)) (c .before .before .before .before .before .before .before .before .before .before .of .ensures) (c .before .before .before .before .before .before .before .before .before .if3 .left)) .family) ∙ (sym (c .before .before .before .before .before .before .before .before .before .before .before .before .is-square .ensures) ∙ c .before .before .before .before .before .before .before .before .before .before .before .if2 .left))) (c .before .before .before .before .before .before .before .shape-of .ensures _ ((kept-of (c .before .before .before .before .before .before .before .before .before .before .before .before .before .before .before .before .before .before .before .args .block .now) (c .before .before .before .before .before .before .before .before .before .before .of .result) (λ i. omega (arith, c .before .before .before .before .before .before .before .before .before .before .before .before .before .before .before .before .before .before .shared-slice-known .given i)) (c .before .before .before .before .before .before .before .before .before .before .of .ensures) (c .before .before .before .before .before .before .before .before .before .if3 .left)) .stands))))
+returns-4 c =
+    lines-room _ (c .before .before .before .before .before .before .before .before .before .before .before .before .before .before .before .before .before .before .before .before .before .args .numbers .now) _ _ _ _ _ (sym (c .before .before .before .before .before .before .before .before .before .before .before .before .before .before .before .before .has-room .ensures) ∙ not-false _ (c .before .before .before .before .before .before .before .before .before .before .before .before .before .before .before .if1 .left)) (build-reply (c .before .before .before .before .before .before .before .before .before .before .before .before .before .before .before .before .before .before .before .before .before .args .block .now) (c .before .before .before .before .before .before .before .before .before .before .before .before .before .before .before .before .before .before .before .before .before .args .numbers .now) _ _ _ _ _ _ (sym (c .before .before .before .before .before .before .before .before .before .before .before .before .before .before .is-square .ensures) ∙ c .before .before .before .before .before .before .before .before .before .before .before .before .before .if2 .left) (corner-answer (c .before .before .before .before .before .before .before .before .before .before .before .before .before .before .before .before .before .before .before .before .before .args .block .now) (c .before .before .before .before .before .before .before .before .before .before .before .before .of .result .job) (kept-of (c .before .before .before .before .before .before .before .before .before .before .before .before .before .before .before .before .before .before .before .before .before .args .block .now) (c .before .before .before .before .before .before .before .before .before .before .before .before .of .result) (λ i. omega (arith, c .before .before .before .before .before .before .before .before .before .before .before .before .before .before .before .before .before .before .before .before .shared-slice-known .given i)) (c .before .before .before .before .before .before .before .before .before .before .before .before .of .ensures) (c .before .before .before .before .before .before .before .before .before .before .before .if3 .left)) (sym (c .before .before .before .before .before .before .before .before .before .before .before .before .before .before .is-square .ensures) ∙ c .before .before .before .before .before .before .before .before .before .before .before .before .before .if2 .left) (c .before .before .before .before .before .before .before .before .if4 .taken) _ (c .before .before .before .before .before .before .before .corner-of .ensures)) (c .before .before .before .before .build-corner .ensures))
+
+shape-of-requires : tie.Need-shape-of-requires
+shape-of-requires c κs =
+    (sound-of (c .before .before .before .before .before .before .before .before .before .before .before .before .before .args .block .now) (c .before .before .before .before .of .result .job) (kept-of (c .before .before .before .before .before .before .before .before .before .before .before .before .before .args .block .now) (c .before .before .before .before .of .result) (λ i. omega (arith, c .before .before .before .before .before .before .before .before .before .before .before .before .shared-slice-known .given i)) (c .before .before .before .before .of .ensures) (c .before .before .before .if3 .left)) (sym (c .before .before .before .before .before .before .is-square .ensures) ∙ c .before .before .before .before .before .if2 .left), c .if4 .left)
+
+build-shape-requires : tie.Need-build-shape-requires
+build-shape-requires c κs =
+    (countable-of (c .before .before .before .before .before .before .before .before .before .before .before .before .before .before .before .before .args .block .now) (c .before .before .before .before .before .before .before .of .result .job) (kept-of (c .before .before .before .before .before .before .before .before .before .before .before .before .before .before .before .before .args .block .now) (c .before .before .before .before .before .before .before .of .result) (λ i. omega (arith, c .before .before .before .before .before .before .before .before .before .before .before .before .before .before .before .shared-slice-known .given i)) (c .before .before .before .before .before .before .before .of .ensures) (c .before .before .before .before .before .before .if3 .left)) (sym (c .before .before .before .before .before .before .before .before .before .is-square .ensures) ∙ c .before .before .before .before .before .before .before .before .if2 .left) (c .before .before .shape-of .ensures), room-of _ _ _ (sym (c .before .before .before .before .before .before .before .before .before .before .before .has-room .ensures) ∙ not-false _ (c .before .before .before .before .before .before .before .before .before .before .if1 .left)))
+
+same-length-3 : tie.Need-same-length-3
+same-length-3 c = search needs
+
+same-length-4 : tie.Need-same-length-4
+same-length-4 c = search needs
+
+returns-5 : tie.Need-returns-5
+returns-5 c =
+    lines-room _ (c .before .before .before .before .before .before .before .before .before .before .before .before .before .before .before .before .before .before .before .before .before .args .numbers .now) _ _ _ _ _ (sym (c .before .before .before .before .before .before .before .before .before .before .before .before .before .before .before .before .has-room .ensures) ∙ not-false _ (c .before .before .before .before .before .before .before .before .before .before .before .before .before .before .before .if1 .left)) (build-shaped (c .before .before .before .before .before .before .before .before .before .before .before .before .before .before .before .before .before .before .before .before .before .args .block .now) (c .before .before .before .before .before .before .before .before .before .before .before .before .before .before .before .before .before .before .before .before .before .args .numbers .now) _ _ (c .before .before .before .before .before .before .before .before .before .before .before .before .of .result .job) (kept-of (c .before .before .before .before .before .before .before .before .before .before .before .before .before .before .before .before .before .before .before .before .before .args .block .now) (c .before .before .before .before .before .before .before .before .before .before .before .before .of .result) (λ i. omega (arith, c .before .before .before .before .before .before .before .before .before .before .before .before .before .before .before .before .before .before .before .before .shared-slice-known .given i)) (c .before .before .before .before .before .before .before .before .before .before .before .before .of .ensures) (c .before .before .before .before .before .before .before .before .before .before .before .if3 .left)) (sym (c .before .before .before .before .before .before .before .before .before .before .before .before .before .before .is-square .ensures) ∙ c .before .before .before .before .before .before .before .before .before .before .before .before .before .if2 .left) (c .before .before .before .before .before .before .before .shape-of .ensures) _ _ _ (c .before .before .before .before .build-shape .ensures))
 
 pub build-all-spec : {M : Type 1} → statement M
 build-all-spec =
@@ -55,8 +78,13 @@ build-all-spec =
     returns-2
     of-requires
     returns-3
-    shape-of-requires
-    build-shape-requires
+    corner-of-requires
+    build-corner-requires
     same-length
     same-length-2
-    returns-4)
+    returns-4
+    shape-of-requires
+    build-shape-requires
+    same-length-3
+    same-length-4
+    returns-5)

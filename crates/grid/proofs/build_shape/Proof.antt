@@ -1,21 +1,25 @@
 -- `grid::build_shape` meets its contract: by the shape's state, and then by the table's answer. Assumes nothing.
-use Rattle.grid.proofs.Counted.{state-over, state-none, state-working}
-use Rattle.grid.proofs.Builds.{build-over, build-none, build-empty, shaped-lined}
+use Rattle.grid.proofs.Counted.{state-none, state-working}
+use Rattle.grid.proofs.Builds.{build-none, build-empty, plan-builds}
 use borrow.Author.Needs.{needs}
 use Rattle.grid.proofs.build_shape.Statement.{statement}
 use Rattle.grid.proofs.build_shape.Tie as tie
 
 returns : tie.Need-returns
-returns c = λ J r g w. build-over J _ _ _ (state-over J _ w (c .if1 .taken))
+returns c =
+    λ J r g w. build-none J _ _ _ (state-none J _ w (c .before .if1 .taken)) (c .if2 .taken)
 
 returns-2 : tie.Need-returns-2
-returns-2 c = λ J r g w. build-none J _ _ _ (state-none J _ w (c .before .if2 .taken)) (c .if3 .taken)
+returns-2 c =
+    λ J r g w. build-empty J _ _ _ (state-none J _ w (c .before .if1 .taken)) (c .if2 .left)
 
-returns-3 : tie.Need-returns-3
-returns-3 c = λ J r g w. build-empty J _ _ _ (state-none J _ w (c .before .if2 .taken)) (c .if3 .left)
+plan-of-requires : tie.Need-plan-of-requires
+plan-of-requires c κs =
+    state-working (c .before .before .before .before .pre .0 .job) _ (c .before .before .before .before .pre .0 .shaped) (c .if1 .left) .form
 
 spell-edges-requires : tie.Need-spell-edges-requires
-spell-edges-requires c κs = (state-working (c .before .before .before .before .before .before .before .pre .0 .job) _ (c .before .before .before .before .before .before .before .pre .0 .shaped) (c .before .before .before .if1 .left) (c .before .before .if2 .left) .form, c .before .before .before .before .before .before .before .pre .1)
+spell-edges-requires c κs =
+    (c .before .before .before .before .before .before .plan-of .ensures .planned, c .before .before .before .before .before .before .before .before .before .before .before .pre .1)
 
 same-length : tie.Need-same-length
 same-length c = search needs
@@ -23,10 +27,18 @@ same-length c = search needs
 same-length-2 : tie.Need-same-length-2
 same-length-2 c = search needs
 
-returns-4 : tie.Need-returns-4
-returns-4 c = λ J r g w. shaped-lined J _ r g (state-working J _ w (c .before .before .before .before .before .before .before .before .if1 .left) (c .before .before .before .before .before .before .before .if2 .left)) _ _ _ _ _ _ (c .before .before .before .before .spell-edges .ensures)
+returns-3 : tie.Need-returns-3
+returns-3 c =
+    λ J r g w. plan-builds J _ r (state-working J _ w (c .before .before .before .before .before .before .before .before .before .before .before .before .if1 .left) .fits) (c .before .before .before .before .before .before .before .before .before .before .before .plan-of .ensures) g _ _ _ _ _ _ (c .before .before .before .before .spell-edges .ensures)
 
 pub build-shape-spec : {M : Type 1} → statement M
 build-shape-spec =
     tie.close
-    (tie.spec returns returns-2 returns-3 spell-edges-requires same-length same-length-2 returns-4)
+    (tie.spec
+    returns
+    returns-2
+    plan-of-requires
+    spell-edges-requires
+    same-length
+    same-length-2
+    returns-3)

@@ -1,21 +1,23 @@
 -- `grid::number_shape` meets its contract: by the shape's state, and then by the table's answer. Assumes nothing.
-use mathlib.Core.Path.{ap, _∙_}
-use Rattle.job.specs.Replies.{reply}
-use Rattle.grid.proofs.Counted.{state-over, state-none, state-empty, state-working, number-over, number-none, table-is}
+use Rattle.grid.proofs.Counted.{state-none, state-empty, state-working, number-none, plan-number}
 use Rattle.grid.proofs.number_shape.Statement.{statement}
 use Rattle.grid.proofs.number_shape.Tie as tie
 
 returns : tie.Need-returns
-returns c = λ J r g w. number-over _ _ (state-over J _ w (c .if1 .taken))
+returns c =
+    λ J r g w. number-none J _ (state-none J _ w (c .if1 .taken)) (state-empty J _ w (c .if1 .taken) _)
 
-returns-2 : tie.Need-returns-2
-returns-2 c = λ J r g w. number-none J _ (state-none J _ w (c .if2 .taken)) (state-empty J _ w (c .if2 .taken) _)
+plan-of-requires : tie.Need-plan-of-requires
+plan-of-requires c κs =
+    state-working (c .before .before .pre .job) _ (c .before .before .pre .shaped) (c .if1 .left) .form
 
 number-requires : tie.Need-number-requires
-number-requires c κs = state-working (c .before .before .before .pre .job) _ (c .before .before .before .pre .shaped) (c .before .if1 .left) (c .if2 .left) .form
+number-requires c κs =
+    c .before .before .before .before .plan-of .ensures .planned
 
-returns-3 : tie.Need-returns-3
-returns-3 c = λ J r g w. c .number .ensures ∙ ap reply (table-is J _ _ r g (state-working J _ w (c .before .before .if1 .left) (c .before .if2 .left)))
+returns-2 : tie.Need-returns-2
+returns-2 c =
+    λ J r g w. plan-number J _ r (state-working J _ w (c .before .before .before .before .before .before .if1 .left) .fits) (c .before .before .before .before .before .plan-of .ensures) g _ (c .number .result) (c .number .ensures)
 
 pub number-shape-spec : {M : Type 1} → statement M
-number-shape-spec = tie.close (tie.spec returns returns-2 number-requires returns-3)
+number-shape-spec = tie.close (tie.spec returns plan-of-requires number-requires returns-2)

@@ -1,0 +1,320 @@
+-- Families 1 and 3: what their plan says of their job. Assumes nothing.
+--
+--   L-up, L-right, L-over           L grows, so it is above 64 bits where n and m are above 33; D is at least L
+--   corner-form                     the steps and the end are a form
+--   cornerShape c                   the steps and the end as a shape, which shows the job's own grid, mirrored where n is below m
+--   corner-over                     the count where the end is above height 33
+--   corner-planned                  the plan is that of the steps
+--   corner-count, corner-number, corner-builds    what the plan's table says is the job's
+--   corner-level, corner-answer     what holds of a held job of family 1 or 3
+use mathlib.Core.Path.{_≡_, refl, ap, _∙_}
+use mathlib.Core.Bool.{Bool, true, false, not, _&&_}
+use mathlib.Core.List.{List, [], _∷_}
+use Prim.Native.Nat.{ℕ, zero, suc, _+_, _*_, _-_, _^_, _≤_, _<_}
+use native.Mathlib.Decide.{decLt, le-ind}
+use native.Mathlib.Nat.{le-trans, le-refl}
+use native.Mathlib.Omega.{arith}
+use lib.Dec.{T, ltb, leb, eqb, leb→le, eqb→eq, lit≤}
+use lib.ListN.{length, getD}
+use borrow.Author.Tests.{lt-ltb, le-ltb, ltb-true, ltb-false}
+use Rattle.howmany.specs.Choose.{pick, bit}
+use Rattle.howmany.proofs.Choices.{and-left, and-right}
+use Rattle.howmany.proofs.Cases.{two, three, eight}
+use Rattle.rules.specs.Jobs as rules
+use Rattle.rules.specs.Jobs.Job.{north-east, dyck, delannoy, schroder, motzkin, directed}
+use Rattle.rules.specs.Counts.{L, Dl, countOf}
+use Rattle.rules.specs.Shear.{gridOf}
+use Rattle.rules.specs.Blocks.{familyOf, square, jobAnswer}
+use Rattle.rules.specs.Refusals.Answer.{accepted}
+use Rattle.rules.specs.Ranges.{InRange}
+use Rattle.job.specs.Replies.{reply, numberSays}
+use Rattle.job.specs.declared.Job.{Job}
+use Rattle.job.specs.declared.Numbered.{Numbered}
+use Rattle.job.specs.declared.Built.{Built}
+use Rattle.job.specs.Stands.{Level, Stands}
+use Rattle.job.specs.Stands.Stands.{as-north-east, as-delannoy, as-open, as-fenced}
+use Rattle.job.proofs.Standing.{Kept}
+use Rattle.grid.specs.Form.{Form, spot}
+use Rattle.grid.specs.Shapes.{Grids, Sound, Fits}
+use Rattle.grid.specs.Shapes.Shows.{slid, mirrored}
+use Rattle.grid.specs.Plans.{Planned, PlanOf, walksFor, numberFor, BuildsFor}
+use Rattle.grid.specs.Calls.{NumbersOf, BuildsOf}
+use Rattle.grid.specs.Corners.{cornerOf, cornerJob, cornerPlan, cornerRight, cornerUp, Within}
+use Rattle.grid.specs.declared.corner.Corner.{Corner}
+use Rattle.grid.specs.declared.plan.Plan.{Plan}
+use Rattle.grid.specs.declared.shape.Shape.{Shape}
+use Rattle.grid.proofs.Walls.{wall-none}
+use Rattle.grid.proofs.Lowering.{product}
+use Rattle.grid.proofs.Prepare.{form-pos}
+use Rattle.grid.proofs.Counted.{kept-grids, plan-count, plan-number}
+use Rattle.grid.proofs.Builds.{plan-builds}
+
+-- ---- the counts
+
+L-up : (n m : ℕ) → L n m ≤ L n (suc m)
+unfolding L
+L-up zero m = omega arith
+L-up (suc n) m = omega arith
+
+L-right : (n m : ℕ) → L n m ≤ L (suc n) m
+unfolding L
+L-right zero zero = omega arith
+L-right zero (suc m) = omega (arith, L-right zero m)
+L-right (suc n) zero = omega arith
+L-right (suc n) (suc m) = omega arith
+
+at-34 : 2 ^ 64 ≤ L 34 34
+unfolding L
+at-34 = lit≤ tt
+
+L-mono : (n m p q : ℕ) → n ≤ p → m ≤ q → L n m ≤ L p q
+L-mono n m p q l h =
+    le-trans (le-ind (λ (k : ℕ). L n m ≤ L n k) (le-refl (L n m)) (λ k g ih. le-trans ih (L-up n k)) q h)
+    (le-ind (λ (k : ℕ). L n q ≤ L k q) (le-refl (L n q)) (λ k g ih. le-trans ih (L-right k q)) p l)
+
+L-over : (n m : ℕ) → 33 < n → 33 < m → 2 ^ 64 ≤ L n m
+L-over n m l h = le-trans at-34 (L-mono 34 34 n m l h)
+
+D-least : (n m : ℕ) → L n m ≤ Dl n m
+unfolding L Dl
+D-least zero m = omega arith
+D-least (suc n) zero = omega arith
+D-least (suc n) (suc m) = omega (arith, D-least (suc n) m, D-least n (suc m))
+
+-- a step of families 1 and 3 that is there, or one that isn't
+ok : ℕ → ℕ → ℕ → ℕ → Bool
+ok k i a c = pick (ltb i k) (leb 1 a && (leb a 3 && leb c 1)) (eqb a 100 && eqb c 0)
+
+record There (a c : ℕ) : Type 0 where
+  ahead : 1 ≤ a
+  near : a ≤ 3
+  low : c ≤ 1
+
+there : (k i a c : ℕ) → T (ok k i a c) → i < k → There a c
+unfolding ok
+there k i a c t l =
+    let u : T (leb 1 a && (leb a 3 && leb c 1)) = rw (lt-ltb i k l) at t in
+    let v = and-right (leb 1 a) (leb a 3 && leb c 1) u in
+    record {
+      ahead = leb→le 1 a (and-left (leb 1 a) (leb a 3 && leb c 1) u);
+      near = leb→le a 3 (and-left (leb a 3) (leb c 1) v);
+      low = leb→le c 1 (and-right (leb a 3) (leb c 1) v);
+    }
+
+gone : (k i a c : ℕ) → T (ok k i a c) → k ≤ i → (a ≡ 100) × (c ≡ 0)
+unfolding ok
+gone k i a c t l =
+    let u : T (eqb a 100 && eqb c 0) = rw (le-ltb i k l) at t in
+    (eqb→eq a 100 (and-left (eqb a 100) (eqb c 0) u), eqb→eq c 0 (and-right (eqb a 100) (eqb c 0) u))
+
+corner-form : (k : ℕ) (sa sc : List ℕ) (ex ey : ℕ) → length sa ≡ 8 → length sc ≡ 8 → 1 ≤ k → k ≤ 8
+    → ((i : ℕ) → i < 8 → T (ok k i (getD sa i 0) (getD sc i 0))) → ex ≤ 97 → ey ≤ 33 → Form k 0 sa sc 1 ex ey
+corner-form k sa sc ex ey la lc some most t lx ly = record {
+  eight = la;
+  eight-too = lc;
+  some = some;
+  most = most;
+  ahead = λ i l. there k i (getD sa i 0) (getD sc i 0) (t i (omega arith)) l .ahead;
+  near = λ i l. there k i (getD sa i 0) (getD sc i 0) (t i (omega arith)) l .near;
+  away = λ i l h. gone k i (getD sa i 0) (getD sc i 0) (t i h) l .0;
+  flat = λ i l h. gone k i (getD sa i 0) (getD sc i 0) (t i h) l .1;
+  low = λ i l. low i l (decLt i k);
+  top-le = omega arith;
+  f-le = omega arith;
+  ex-le = lx;
+  ey-le = omega arith;
+  cells = product (ex + 2) (1 + ey + 1) 99 35 3712 (omega arith) (omega arith) (omega arith);
+}
+  where
+    low : (i : ℕ) → i < 8 → Dec (i < k) → getD sc i 0 ≤ 1
+    low i l (yes h) = there k i (getD sa i 0) (getD sc i 0) (t i l) h .low
+    low i l (no h) = omega (arith, gone k i (getD sa i 0) (getD sc i 0) (t i l) (omega arith) .1)
+
+-- ---- the grid
+
+-- the shape of a corner, with the end at n and E going up where t, else at m and N
+abbrev shapeBy : Bool → Bool → ℕ → ℕ → Shape
+shapeBy t d n m = record {
+  state = 0;
+  corner = true;
+  k = pick d 3 2;
+  f = 0;
+  top = 1;
+  ex = n + m;
+  ey = pick t n m;
+  sa = 1 ∷ 1 ∷ pick d 2 100 ∷ 100 ∷ 100 ∷ 100 ∷ 100 ∷ 100 ∷ [];
+  sc = bit (not t) ∷ bit t ∷ bit d ∷ 0 ∷ 0 ∷ 0 ∷ 0 ∷ 0 ∷ [];
+}
+
+abbrev jobBy : Bool → ℕ → ℕ → rules.Job
+jobBy d n m = pick d (delannoy n m) (north-east n m)
+
+abbrev cornerShape : Corner → Shape
+cornerShape c = shapeBy (ltb (c .n) (c .m)) (c .diagonal) (c .n) (c .m)
+
+fits : (t d : Bool) (n m : ℕ) → Fits (jobBy d n m) (shapeBy t d n m)
+fits true true n m = record {
+  letters = refl;
+  end = spot (n + m) m;
+  sits = record { across = refl; up = refl };
+  shows = mirrored 1 (record {
+    many = refl;
+    right = three (λ i. getD (shapeBy true true n m .sa) i 0 ≡ gridOf (delannoy n m) .a i) refl refl refl;
+    up = three (λ i. getD (shapeBy true true n m .sc) i 0 + gridOf (delannoy n m) .c i ≡ 1 * gridOf (delannoy n m) .a i) refl refl refl;
+    wall = λ x y l. wall-none x y;
+  }) (refl, omega arith);
+}
+fits true false n m = record {
+  letters = refl;
+  end = spot (n + m) m;
+  sits = record { across = refl; up = refl };
+  shows = mirrored 1 (record {
+    many = refl;
+    right = two (λ i. getD (shapeBy true false n m .sa) i 0 ≡ gridOf (north-east n m) .a i) refl refl;
+    up = two (λ i. getD (shapeBy true false n m .sc) i 0 + gridOf (north-east n m) .c i ≡ 1 * gridOf (north-east n m) .a i) refl refl;
+    wall = λ x y l. wall-none x y;
+  }) (refl, omega arith);
+}
+fits false true n m = record {
+  letters = refl;
+  end = spot (n + m) m;
+  sits = record { across = refl; up = refl };
+  shows = slid 0 (record {
+    many = refl;
+    right = three (λ i. getD (shapeBy false true n m .sa) i 0 ≡ gridOf (delannoy n m) .a i) refl refl refl;
+    up = three (λ i. getD (shapeBy false true n m .sc) i 0 + 0 * gridOf (delannoy n m) .a i ≡ gridOf (delannoy n m) .c i) refl refl refl;
+    wall = λ x y. wall-none x y;
+  }) (refl, omega arith);
+}
+fits false false n m = record {
+  letters = refl;
+  end = spot (n + m) m;
+  sits = record { across = refl; up = refl };
+  shows = slid 0 (record {
+    many = refl;
+    right = two (λ i. getD (shapeBy false false n m .sa) i 0 ≡ gridOf (north-east n m) .a i) refl refl;
+    up = two (λ i. getD (shapeBy false false n m .sc) i 0 + 0 * gridOf (north-east n m) .a i ≡ gridOf (north-east n m) .c i) refl refl;
+    wall = λ x y. wall-none x y;
+  }) (refl, omega arith);
+}
+
+steps-ok : (t d : Bool) (n m i : ℕ) → i < 8 → T (ok (pick d 3 2) i (getD (shapeBy t d n m .sa) i 0) (getD (shapeBy t d n m .sc) i 0))
+unfolding ok
+steps-ok true true n m = eight (λ i. T (ok 3 i (getD (shapeBy true true n m .sa) i 0) (getD (shapeBy true true n m .sc) i 0))) tt tt tt tt tt tt tt tt
+steps-ok true false n m = eight (λ i. T (ok 2 i (getD (shapeBy true false n m .sa) i 0) (getD (shapeBy true false n m .sc) i 0))) tt tt tt tt tt tt tt tt
+steps-ok false true n m = eight (λ i. T (ok 3 i (getD (shapeBy false true n m .sa) i 0) (getD (shapeBy false true n m .sc) i 0))) tt tt tt tt tt tt tt tt
+steps-ok false false n m = eight (λ i. T (ok 2 i (getD (shapeBy false false n m .sa) i 0) (getD (shapeBy false false n m .sc) i 0))) tt tt tt tt tt tt tt tt
+
+-- the end is the lesser of n and m where it is at 33 or below, since neither is above 64
+across : (t : Bool) (n m : ℕ) → n ≤ 64 → m ≤ 64 → pick t n m ≤ 33 → n + m ≤ 97
+across true n m a b l = omega arith
+across false n m a b l = omega arith
+
+many : (d : Bool) → (1 ≤ pick d 3 2) × (pick d 3 2 ≤ 4)
+many true = (omega arith, omega arith)
+many false = (omega arith, omega arith)
+
+-- ---- the plan
+
+module _ (c : Corner) where
+  abbrev steps-form : Type 0
+  steps-form = Form (pick (c .diagonal) 3 2) 0 (cornerRight c) (cornerUp c) 1 (c .n + c .m) (cornerPlan c .ey)
+
+  range : InRange (cornerJob c)
+  range = go (c .diagonal)
+    where
+      go : (d : Bool) → InRange (jobBy d (c .n) (c .m))
+      go true = tt
+      go false = tt
+
+  grids : Grids (cornerJob c)
+  grids = go (c .diagonal)
+    where
+      go : (d : Bool) → Grids (jobBy d (c .n) (c .m))
+      go true = tt
+      go false = tt
+
+  least : 2 ^ 64 ≤ L (c .n) (c .m) → 2 ^ 64 ≤ countOf (cornerJob c)
+  unfolding countOf
+  least l = go (c .diagonal)
+    where
+      go : (d : Bool) → 2 ^ 64 ≤ countOf (jobBy d (c .n) (c .m))
+      go true = le-trans l (D-least (c .n) (c .m))
+      go false = l
+
+  above : 33 < cornerPlan c .ey → (33 < c .n) × (33 < c .m)
+  above l = go (ltb (c .n) (c .m)) refl l
+    where
+      go : (t : Bool) → ltb (c .n) (c .m) ≡ t → 33 < pick t (c .n) (c .m) → (33 < c .n) × (33 < c .m)
+      go true e l = (l, omega (arith, ltb-true (c .n) (c .m) e))
+      go false e l = (omega (arith, ltb-false (c .n) (c .m) e), l)
+
+  module _ (w : Within c) (l : cornerPlan c .ey ≤ 33) where
+    form : steps-form
+    form =
+        corner-form (pick (c .diagonal) 3 2) (cornerRight c) (cornerUp c) (c .n + c .m) (cornerPlan c .ey) refl refl (many (c .diagonal) .0)
+        (omega (arith, many (c .diagonal))) (steps-ok (ltb (c .n) (c .m)) (c .diagonal) (c .n) (c .m)) (across (ltb (c .n) (c .m)) (c .n) (c .m) (w .n-most) (w .m-most) l) l
+
+    planned : Planned (cornerRight c) (cornerUp c) (cornerPlan c)
+    planned = record {
+      form = form;
+      steep = record { le = omega arith; all = λ i h q. omega (arith, form .low i h, form-pos form i h) };
+      deep = record { le = omega arith; all = λ i h q. form .low i h };
+      fewer = record { gone = λ e i h q. omega (arith, form .ex-le, form .away i (omega (arith, many (c .diagonal))) q) };
+    }
+
+    plan-of : PlanOf (cornerShape c) (cornerPlan c)
+    plan-of = record { planned = planned; corner-is = refl; k-is = refl; f-is = refl; ex-is = refl; ey-is = refl }
+
+module _ (c : Corner) {p : Plan} (ep : p ≡ cornerPlan c) where
+  pub corner-over : 33 < p .ey → 2 ^ 64 ≤ countOf (cornerJob c)
+  corner-over l = let h = above c (rw ep at l) in least c (L-over (c .n) (c .m) (h .0) (h .1))
+
+  module _ {sa sc : List ℕ} (ea : sa ≡ cornerRight c) (eu : sc ≡ cornerUp c) (w : Within c) (l : p .ey ≤ 33) where
+    shown : Fits (cornerJob c) (cornerShape c)
+    shown = fits (ltb (c .n) (c .m)) (c .diagonal) (c .n) (c .m)
+
+    pub corner-planned : Planned sa sc p
+    corner-planned = rw (ep, ea, eu) (planned c w (rw ep at l))
+
+    pub corner-count : walksFor p sa sc ≡ countOf (cornerJob c)
+    corner-count = rw (ep, ea, eu) (plan-count (cornerJob c) (cornerShape c) (range c) shown (plan-of c w (rw ep at l)))
+
+    pub corner-number : (e : List ℕ) (x : Numbered) → numberSays x ≡ reply (numberFor p sa sc e) → NumbersOf (cornerJob c) e x
+    corner-number e x h = plan-number (cornerJob c) (cornerShape c) (range c) shown (plan-of c w (rw ep at l)) (grids c) e x (rw (ep, ea, eu) at h)
+
+    pub corner-builds : (ns steps ends : List ℕ) (x : Built) (t u : List ℕ) → BuildsFor p sa sc ns steps ends t u x → BuildsOf (cornerJob c) ns steps ends t u x
+    corner-builds ns steps ends x t u h = plan-builds (cornerJob c) (cornerShape c) (range c) shown (plan-of c w (rw ep at l)) (grids c) ns steps ends x t u (rw (ep, ea, eu) at h)
+
+-- ---- the held job
+
+pub record Levelled (j : Job) : Type 0 where
+  pub m-least : 128 ≤ j .m
+  pub within : Within (cornerOf j)
+
+pub corner-level : (j : Job) → Sound j → j .family < 6 → Levelled j
+corner-level j s c = go (s .job) (s .stands) (s .grids)
+  where
+    level : {m : ℕ} → Level j m → Levelled j
+    level v = record { m-least = omega (arith, v .m-is); within = record { n-most = v .n-most; m-most = omega (arith, v .m-is, v .m-most) } }
+
+    go : (K : rules.Job) → Stands j K → Grids K → Levelled j
+    go (north-east n m) (as-north-east e v) g = level v
+    go (dyck n) x g = absurd g
+    go (delannoy n m) (as-delannoy e v) g = level v
+    go (schroder n) x g = absurd g
+    go (motzkin n) x g = absurd g
+    go (directed f n m p) (as-open e v) g = absurd (omega arith)
+    go (directed f n m p) (as-fenced e v) g = absurd (omega arith)
+
+corner-job : (j : Job) (J : rules.Job) → Stands j J → Grids J → j .family < 6 → J ≡ cornerJob (cornerOf j)
+corner-job j (north-east n m) (as-north-east e v) g l = let h : j .m - 128 ≡ m = omega (arith, v .m-is) in rw (ap (λ (f : ℕ). eqb f 3) e, h)
+corner-job j (dyck n) x g l = absurd g
+corner-job j (delannoy n m) (as-delannoy e v) g l = let h : j .m - 128 ≡ m = omega (arith, v .m-is) in rw (ap (λ (f : ℕ). eqb f 3) e, h)
+corner-job j (schroder n) x g l = absurd g
+corner-job j (motzkin n) x g l = absurd g
+corner-job j (directed f n m p) (as-open e v) g l = absurd (omega arith)
+corner-job j (directed f n m p) (as-fenced e v) g l = absurd (omega arith)
+
+pub corner-answer : (b : List ℕ) (j : Job) (k : Kept b j) → square (familyOf b) ≡ false → j .family < 6 → (c : Corner) → c ≡ cornerOf j → jobAnswer b ≡ accepted (cornerJob c)
+corner-answer b j k q l c e = k .answer ∙ ap accepted (corner-job j (k .job) (k .stands) (kept-grids b j k q) l ∙ rw e refl)
