@@ -1,6 +1,5 @@
 -- A row of counts, made from the one before it in place. Assumes nothing.
 --
---   wrap-in, wrap-out, wrapped-..    a sum modulo 2^64: the sum itself where it isn't below what was added, else it doesn't fit
 --   picked-yes, picked-no            what the third step brings, by the test
 --   le-more, place-.., next-.., less-fits, left-less, one-on, at-last    numbers of the loops
 --   Between            of the row of j the counts before i are those of the row of j + 1 by now; sum and before are the last ones
@@ -11,7 +10,7 @@
 use mathlib.Core.Path.{_≡_, refl, sym, ap, _∙_, subst}
 use mathlib.Core.Bool.{Bool, true, false}
 use mathlib.Core.List.{List}
-use Prim.Native.Nat.{ℕ, _+_, _-_, _*_, _%_, _^_, _≤_, _<_}
+use Prim.Native.Nat.{ℕ, _+_, _-_, _*_, _^_, _≤_, _<_}
 use native.Mathlib.Decide.{ℕ-discrete}
 use native.Mathlib.Nat.{le-refl, le-trans}
 use native.Mathlib.Omega.{arith}
@@ -27,24 +26,6 @@ use Rattle.job.specs.Replies.Reply.{value}
 use Rattle.job.specs.declared.Counted.the-variants.{Count, Refused}
 use Rattle.corners.specs.Corners.{ends, cornerAnswer, Row, NextRow}
 use Rattle.corners.proofs.Ends.{ends-none, ends-rim, ends-next, ends-most, ends-turned}
-
--- ---- sums that wrap
-module _ {s a r : ℕ} (l : s < 2 ^ 64) (e : r ≡ (s + a) % 2 ^ 64) where
-  wrap-in : a ≤ r → (r ≡ s + a) × (r < 2 ^ 64)
-  wrap-in h = (omega arith, omega arith)
-
-  pub wrap-out : r < a → 2 ^ 64 ≤ s + a
-  wrap-out h = omega arith
-
-module _ {s a b r t : ℕ} (l : s < 2 ^ 64) (e : r ≡ (s + a) % 2 ^ 64) (h : a ≤ r) (g : t ≡ (r + b) % 2 ^ 64) where
-  pub wrapped-fits : b ≤ t → t < 2 ^ 64
-  wrapped-fits k = wrap-in (wrap-in l e h .1) g k .1
-
-  pub wrapped-in : b ≤ t → t ≡ s + a + b
-  wrapped-in k = wrap-in (wrap-in l e h .1) g k .0 ∙ ap (λ (z : ℕ). z + b) (wrap-in l e h .0)
-
-  pub wrapped-out : t < b → 2 ^ 64 ≤ s + a + b
-  wrapped-out k = omega (arith, wrap-out (wrap-in l e h .1) g k, wrap-in l e h .0)
 
 pub picked-yes : (d : Bool) (x b : ℕ) → d ≡ true → b ≡ x → b ≡ pick d x 0
 picked-yes d x b e g = rw e g

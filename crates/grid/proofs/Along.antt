@@ -9,13 +9,12 @@
 --   rows-none, rows-more, rows-next, rows-got    the rows so far: none yet, one cell more, a row more, and all of them
 --   below-is, across-is, first-is, first-one     what is read from the row below
 --   Along, row-.., along-.., next-..             the loop along a row
---   wrap-in, wrap-out, wrapped-..                a sum modulo 2^64: the sum itself where it isn't below what was added, else it doesn't fit
 --   risen-of, risen-over, rows-over   the loop over the rows, and where a count doesn't fit
 use mathlib.Core.Path.{_≡_, refl, sym, ap, ap₂, _∙_, subst}
 use mathlib.Core.Logic.{inl, inr}
 use mathlib.Core.Bool.{Bool, true, false}
 use mathlib.Core.List.{List}
-use Prim.Native.Nat.{ℕ, zero, suc, _+_, _-_, _*_, _%_, _^_, _≤_, _<_}
+use Prim.Native.Nat.{ℕ, zero, suc, _+_, _-_, _*_, _^_, _≤_, _<_}
 use native.Mathlib.Decide.{decLe, decLt, ℕ-discrete}
 use native.Mathlib.Nat.{le-trans}
 use native.Mathlib.Omega.{arith}
@@ -434,25 +433,6 @@ module _ {p : plans.Plan} {sa sc off : List ℕ} {y : ℕ} {val : List ℕ} {cel
             at = z;
             is = v;
           }
-
--- ---- sums that wrap
-
-module _ {s a r : ℕ} (l : s < 2 ^ 64) (e : r ≡ (s + a) % 2 ^ 64) where
-  wrap-in : a ≤ r → (r ≡ s + a) × (r < 2 ^ 64)
-  wrap-in h = (omega arith, omega arith)
-
-  pub wrap-out : r < a → 2 ^ 64 ≤ s + a
-  wrap-out h = omega arith
-
-module _ {s a b r t : ℕ} (l : s < 2 ^ 64) (e : r ≡ (s + a) % 2 ^ 64) (h : a ≤ r) (g : t ≡ (r + b) % 2 ^ 64) where
-  pub wrapped-fits : b ≤ t → t < 2 ^ 64
-  wrapped-fits k = wrap-in (wrap-in l e h .1) g k .1
-
-  pub wrapped-in : b ≤ t → t ≡ s + a + b
-  wrapped-in k = wrap-in (wrap-in l e h .1) g k .0 ∙ ap (λ (z : ℕ). z + b) (wrap-in l e h .0)
-
-  pub wrapped-out : t < b → 2 ^ 64 ≤ s + a + b
-  wrapped-out k = omega (arith, wrap-out (wrap-in l e h .1) g k, wrap-in l e h .0)
 
 -- ---- the loop over the rows
 

@@ -1,20 +1,19 @@
 -- Families 1 and 3: what their plan says of their job. Assumes nothing.
 --
---   L-up, L-right, L-over           L grows, so it is above 64 bits where n and m are above 33; D is at least L
 --   corner-form                     the steps and the end are a form
 --   cornerShape c                   the steps and the end as a shape, which shows the job's own grid, mirrored where n is below m
+--   corner-counts                   a count by rows is the job's
 --   corner-over                     the count where the end is above height 33
 --   corner-planned                  the plan is that of the steps
---   corner-count, corner-number, corner-builds    what the plan's table says is the job's
+--   corner-number, corner-builds    what the plan's table says is the job's
 --   corner-level, corner-answer     what holds of a held job of family 1 or 3
 use mathlib.Core.Path.{_≡_, refl, ap, _∙_}
 use mathlib.Core.Bool.{Bool, true, false, not, _&&_}
 use mathlib.Core.List.{List, [], _∷_}
-use Prim.Native.Nat.{ℕ, zero, suc, _+_, _*_, _-_, _^_, _≤_, _<_}
-use native.Mathlib.Decide.{decLt, le-ind}
-use native.Mathlib.Nat.{le-trans, le-refl}
+use Prim.Native.Nat.{ℕ, _+_, _*_, _-_, _^_, _≤_, _<_}
+use native.Mathlib.Decide.{decLt}
 use native.Mathlib.Omega.{arith}
-use lib.Dec.{T, ltb, leb, eqb, leb→le, eqb→eq, lit≤}
+use lib.Dec.{T, ltb, leb, eqb, leb→le, eqb→eq}
 use lib.ListN.{length, getD}
 use borrow.Author.Tests.{lt-ltb, le-ltb, ltb-true, ltb-false}
 use Rattle.howmany.specs.Choose.{pick, bit}
@@ -22,23 +21,26 @@ use Rattle.howmany.proofs.Choices.{and-left, and-right}
 use Rattle.howmany.proofs.Cases.{two, three, eight}
 use Rattle.rules.specs.Jobs as rules
 use Rattle.rules.specs.Jobs.Job.{north-east, dyck, delannoy, schroder, motzkin, directed}
-use Rattle.rules.specs.Counts.{L, Dl, countOf}
+use Rattle.rules.specs.Counts.{countOf}
 use Rattle.rules.specs.Shear.{gridOf}
 use Rattle.rules.specs.Blocks.{familyOf, square, jobAnswer}
 use Rattle.rules.specs.Refusals.Answer.{accepted}
 use Rattle.rules.specs.Ranges.{InRange}
-use Rattle.job.specs.Replies.{reply, numberSays}
+use Rattle.job.specs.Replies.{reply, countSays, numberSays}
+use Rattle.job.specs.declared.Counted.{Counted}
 use Rattle.job.specs.declared.Job.{Job}
 use Rattle.job.specs.declared.Numbered.{Numbered}
 use Rattle.job.specs.declared.Built.{Built}
 use Rattle.job.specs.Stands.{Level, Stands}
 use Rattle.job.specs.Stands.Stands.{as-north-east, as-delannoy, as-open, as-fenced}
 use Rattle.job.proofs.Standing.{Kept}
+use Rattle.corners.specs.Corners.{ends, cornerAnswer}
+use Rattle.corners.proofs.Ends.{ends-over}
 use Rattle.grid.specs.Form.{Form, spot}
 use Rattle.grid.specs.Shapes.{Grids, Sound, Fits}
 use Rattle.grid.specs.Shapes.Shows.{slid, mirrored}
-use Rattle.grid.specs.Plans.{Planned, PlanOf, walksFor, numberFor, BuildsFor}
-use Rattle.grid.specs.Calls.{NumbersOf, BuildsOf}
+use Rattle.grid.specs.Plans.{Planned, PlanOf, numberFor, BuildsFor}
+use Rattle.grid.specs.Calls.{CountsOf, NumbersOf, BuildsOf}
 use Rattle.grid.specs.Corners.{cornerOf, cornerJob, cornerPlan, cornerRight, cornerUp, Within}
 use Rattle.grid.specs.declared.corner.Corner.{Corner}
 use Rattle.grid.specs.declared.plan.Plan.{Plan}
@@ -46,40 +48,10 @@ use Rattle.grid.specs.declared.shape.Shape.{Shape}
 use Rattle.grid.proofs.Walls.{wall-none}
 use Rattle.grid.proofs.Lowering.{product}
 use Rattle.grid.proofs.Prepare.{form-pos}
-use Rattle.grid.proofs.Counted.{kept-grids, plan-count, plan-number}
+use Rattle.grid.proofs.Counted.{kept-grids, plan-number}
 use Rattle.grid.proofs.Builds.{plan-builds}
 
--- ---- the counts
-
-L-up : (n m : ℕ) → L n m ≤ L n (suc m)
-unfolding L
-L-up zero m = omega arith
-L-up (suc n) m = omega arith
-
-L-right : (n m : ℕ) → L n m ≤ L (suc n) m
-unfolding L
-L-right zero zero = omega arith
-L-right zero (suc m) = omega (arith, L-right zero m)
-L-right (suc n) zero = omega arith
-L-right (suc n) (suc m) = omega arith
-
-at-34 : 2 ^ 64 ≤ L 34 34
-unfolding L
-at-34 = lit≤ tt
-
-L-mono : (n m p q : ℕ) → n ≤ p → m ≤ q → L n m ≤ L p q
-L-mono n m p q l h =
-    le-trans (le-ind (λ (k : ℕ). L n m ≤ L n k) (le-refl (L n m)) (λ k g ih. le-trans ih (L-up n k)) q h)
-    (le-ind (λ (k : ℕ). L n q ≤ L k q) (le-refl (L n q)) (λ k g ih. le-trans ih (L-right k q)) p l)
-
-L-over : (n m : ℕ) → 33 < n → 33 < m → 2 ^ 64 ≤ L n m
-L-over n m l h = le-trans at-34 (L-mono 34 34 n m l h)
-
-D-least : (n m : ℕ) → L n m ≤ Dl n m
-unfolding L Dl
-D-least zero m = omega arith
-D-least (suc n) zero = omega arith
-D-least (suc n) (suc m) = omega (arith, D-least (suc n) m, D-least n (suc m))
+-- ---- the steps
 
 -- a step of families 1 and 3 that is there, or one that isn't
 ok : ℕ → ℕ → ℕ → ℕ → Bool
@@ -234,13 +206,16 @@ module _ (c : Corner) where
       go true = tt
       go false = tt
 
-  least : 2 ^ 64 ≤ L (c .n) (c .m) → 2 ^ 64 ≤ countOf (cornerJob c)
+  ends-is : ends (c .diagonal) (c .n) (c .m) ≡ countOf (cornerJob c)
   unfolding countOf
-  least l = go (c .diagonal)
+  ends-is = go (c .diagonal)
     where
-      go : (d : Bool) → 2 ^ 64 ≤ countOf (jobBy d (c .n) (c .m))
-      go true = le-trans l (D-least (c .n) (c .m))
-      go false = l
+      go : (d : Bool) → ends d (c .n) (c .m) ≡ countOf (jobBy d (c .n) (c .m))
+      go true = refl
+      go false = refl
+
+  pub corner-counts : (r : Counted) → countSays r ≡ reply (cornerAnswer (c .diagonal) (c .n) (c .m)) → CountsOf (cornerJob c) r
+  corner-counts r e = rw (← ends-is) e
 
   above : 33 < cornerPlan c .ey → (33 < c .n) × (33 < c .m)
   above l = go (ltb (c .n) (c .m)) refl l
@@ -268,7 +243,7 @@ module _ (c : Corner) where
 
 module _ (c : Corner) {p : Plan} (ep : p ≡ cornerPlan c) where
   pub corner-over : 33 < p .ey → 2 ^ 64 ≤ countOf (cornerJob c)
-  corner-over l = let h = above c (rw ep at l) in least c (L-over (c .n) (c .m) (h .0) (h .1))
+  corner-over l = let h = above c (rw ep at l) in rw (← ends-is c) (ends-over (c .diagonal) (c .n) (c .m) (h .0) (h .1))
 
   module _ {sa sc : List ℕ} (ea : sa ≡ cornerRight c) (eu : sc ≡ cornerUp c) (w : Within c) (l : p .ey ≤ 33) where
     shown : Fits (cornerJob c) (cornerShape c)
@@ -276,9 +251,6 @@ module _ (c : Corner) {p : Plan} (ep : p ≡ cornerPlan c) where
 
     pub corner-planned : Planned sa sc p
     corner-planned = rw (ep, ea, eu) (planned c w (rw ep at l))
-
-    pub corner-count : walksFor p sa sc ≡ countOf (cornerJob c)
-    corner-count = rw (ep, ea, eu) (plan-count (cornerJob c) (cornerShape c) (range c) shown (plan-of c w (rw ep at l)))
 
     pub corner-number : (e : List ℕ) (x : Numbered) → numberSays x ≡ reply (numberFor p sa sc e) → NumbersOf (cornerJob c) e x
     corner-number e x h = plan-number (cornerJob c) (cornerShape c) (range c) shown (plan-of c w (rw ep at l)) (grids c) e x (rw (ep, ea, eu) at h)

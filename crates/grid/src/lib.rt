@@ -50,8 +50,7 @@ pub fn count(block: &[u8]) -> Counted
     }
     let job = made.job;
     if job.family < 6 {
-        let c = corner::corner_of(job);
-        return count_corner(c);
+        return corners::count(job.n, job.m - Job::LEVEL, job.family == 3);
     }
     let s = shape::shape_of(job);
     count_shape(s)
@@ -64,19 +63,6 @@ fn told(a: Answer) -> Counted
         Answer::Count(c) => Counted::Count(c),
         Answer::Over => Counted::Refused(4),
     }
-}
-
-fn count_corner(c: Corner) -> Counted
-    requires { ⌜ Within c ⌝ }
-    ensures { λ r. ⌜ CountsOf (cornerJob c) r ⌝ }
-{
-    let p = corner::plan(c);
-    if corner::MOST < p.ey {
-        return Counted::Refused(4);
-    }
-    let sa = corner::right(c);
-    let sc = corner::up(c);
-    told(counting::count(&sa, &sc, p))
 }
 
 fn count_shape(s: Shape) -> Counted

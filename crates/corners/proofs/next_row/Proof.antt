@@ -6,7 +6,8 @@ use mathlib.Core.Logic.{⊎-elim}
 use lib.Dec.{lit<}
 use lib.ListN.{length, length-set}
 use Rattle.corners.specs.Corners.{Row}
-use Rattle.corners.proofs.Rows.{Between, picked-yes, picked-no, le-more, le-more-left, in-long, place-in, place-fits, next-fits, next-less, next-le, wrap-out, wrapped-in, wrapped-out, wrapped-fits, between-start, between-next, between-over, row-all, row-over}
+use Rattle.corners.proofs.Wraps.{wrap-out, wrapped-in, wrapped-out, wrapped-fits}
+use Rattle.corners.proofs.Rows.{Between, picked-yes, picked-no, le-more, le-more-left, in-long, place-in, place-fits, next-fits, next-less, next-le, between-start, between-next, between-over, row-all, row-over}
 use Rattle.corners.proofs.next_row.Statement.{statement}
 use Rattle.corners.proofs.next_row.Tie as tie
 

@@ -1,38 +1,41 @@
 -- `grid::count` meets its contract: by family, by the job maker's answer, and by the job's corner or shape. Assumes nothing.
-use mathlib.Core.Path.{sym, _∙_}
+use mathlib.Core.Path.{refl, sym, _∙_}
 use native.Mathlib.Omega.{arith}
 use Rattle.job.proofs.Standing.{kept-of, told-of}
+use Rattle.grid.specs.Corners.{cornerOf}
 use Rattle.grid.proofs.Counted.{square-reply, count-told-reply, sound-of, countable-of, count-reply, count-shaped}
-use Rattle.grid.proofs.Corners.{corner-level, corner-answer}
+use Rattle.grid.proofs.Corners.{corner-level, corner-answer, corner-counts}
 use borrow.Author.Needs.{needs}
 use Rattle.grid.proofs.count.Statement.{statement}
 use Rattle.grid.proofs.count.Tie as tie
 
 is-square-requires : tie.Need-is-square-requires
-is-square-requires c κs = search needs
+is-square-requires c κs =
+    search needs
 
 returns : tie.Need-returns
 returns c =
     square-reply (c .before .before .before .args .block .now) _ (sym (c .before .is-square .ensures) ∙ c .if1 .taken)
 
 of-requires : tie.Need-of-requires
-of-requires c κs = search needs
+of-requires c κs =
+    search needs
 
 returns-2 : tie.Need-returns-2
 returns-2 c =
     count-told-reply (c .before .before .before .before .before .args .block .now) _ (sym (c .before .before .before .is-square .ensures) ∙ c .before .before .if1 .left) (told-of (c .before .before .before .before .before .args .block .now) (c .before .of .result) (c .before .of .ensures) (c .if2 .taken))
 
-corner-of-requires : tie.Need-corner-of-requires
-corner-of-requires c κs =
-    corner-level _ (sound-of (c .before .before .before .before .before .before .before .before .args .block .now) (c .before .before .before .before .of .result .job) (kept-of (c .before .before .before .before .before .before .before .before .args .block .now) (c .before .before .before .before .of .result) (λ i. omega (arith, c .before .before .before .before .before .before .before .shared-slice-known .given i)) (c .before .before .before .before .of .ensures) (c .before .before .before .if2 .left)) (sym (c .before .before .before .before .before .before .is-square .ensures) ∙ c .before .before .before .before .before .if1 .left)) (c .if3 .taken) .m-least
+sub-count : tie.Need-sub-count
+sub-count c =
+    corner-level _ (sound-of (c .before .before .before .before .before .before .before .before .before .args .block .now) (c .before .before .before .before .before .of .result .job) (kept-of (c .before .before .before .before .before .before .before .before .before .args .block .now) (c .before .before .before .before .before .of .result) (λ i. omega (arith, c .before .before .before .before .before .before .before .before .shared-slice-known .given i)) (c .before .before .before .before .before .of .ensures) (c .before .before .before .before .if2 .left)) (sym (c .before .before .before .before .before .before .before .is-square .ensures) ∙ c .before .before .before .before .before .before .if1 .left)) (c .before .if3 .taken) .m-least
 
-count-corner-requires : tie.Need-count-corner-requires
-count-corner-requires c κs =
-    rw (c .corner-of .ensures) (corner-level _ (sound-of (c .before .before .before .before .before .before .before .before .before .args .block .now) (c .before .before .before .before .before .of .result .job) (kept-of (c .before .before .before .before .before .before .before .before .before .args .block .now) (c .before .before .before .before .before .of .result) (λ i. omega (arith, c .before .before .before .before .before .before .before .before .shared-slice-known .given i)) (c .before .before .before .before .before .of .ensures) (c .before .before .before .before .if2 .left)) (sym (c .before .before .before .before .before .before .before .is-square .ensures) ∙ c .before .before .before .before .before .before .if1 .left)) (c .before .if3 .taken) .within)
+count-requires : tie.Need-count-requires
+count-requires c κs =
+    tt
 
 returns-3 : tie.Need-returns-3
 returns-3 c =
-    count-reply (c .before .before .before .before .before .before .before .before .before .before .args .block .now) _ (c .count-corner .result) (sym (c .before .before .before .before .before .before .before .before .is-square .ensures) ∙ c .before .before .before .before .before .before .before .if1 .left) (corner-answer (c .before .before .before .before .before .before .before .before .before .before .args .block .now) (c .before .before .before .before .before .before .of .result .job) (kept-of (c .before .before .before .before .before .before .before .before .before .before .args .block .now) (c .before .before .before .before .before .before .of .result) (λ i. omega (arith, c .before .before .before .before .before .before .before .before .before .shared-slice-known .given i)) (c .before .before .before .before .before .before .of .ensures) (c .before .before .before .before .before .if2 .left)) (sym (c .before .before .before .before .before .before .before .before .is-square .ensures) ∙ c .before .before .before .before .before .before .before .if1 .left) (c .before .before .if3 .taken) _ (c .before .corner-of .ensures)) (c .count-corner .ensures)
+    count-reply (c .before .before .before .before .before .before .before .before .before .before .before .args .block .now) _ (c .count .result) (sym (c .before .before .before .before .before .before .before .before .before .is-square .ensures) ∙ c .before .before .before .before .before .before .before .before .if1 .left) (corner-answer (c .before .before .before .before .before .before .before .before .before .before .before .args .block .now) (c .before .before .before .before .before .before .before .of .result .job) (kept-of (c .before .before .before .before .before .before .before .before .before .before .before .args .block .now) (c .before .before .before .before .before .before .before .of .result) (λ i. omega (arith, c .before .before .before .before .before .before .before .before .before .before .shared-slice-known .given i)) (c .before .before .before .before .before .before .before .of .ensures) (c .before .before .before .before .before .before .if2 .left)) (sym (c .before .before .before .before .before .before .before .before .before .is-square .ensures) ∙ c .before .before .before .before .before .before .before .before .if1 .left) (c .before .before .before .if3 .taken) (cornerOf (c .before .before .before .before .before .before .before .of .result .job)) refl) (corner-counts (cornerOf (c .before .before .before .before .before .before .before .of .result .job)) (c .count .result) (c .count .ensures))
 
 shape-of-requires : tie.Need-shape-of-requires
 shape-of-requires c κs =
@@ -54,8 +57,8 @@ count-spec =
     returns
     of-requires
     returns-2
-    corner-of-requires
-    count-corner-requires
+    sub-count
+    count-requires
     returns-3
     shape-of-requires
     count-shape-requires

@@ -4,7 +4,8 @@ use lib.Dec.{T}
 use native.Mathlib.Omega.{arith}
 use borrow.Author.Needs.{needs}
 use lib.ListN.{length, length-set}
-use Rattle.grid.proofs.Along.{Along, row-at, row-small, row-far, first-fits, along-start, along-in, along-small, along-far, along-done, next-in, next-small, along-over, along-next, wrap-out, wrapped-in, wrapped-out, wrapped-fits}
+use Rattle.corners.proofs.Wraps.{wrap-out, wrapped-in, wrapped-out, wrapped-fits}
+use Rattle.grid.proofs.Along.{Along, row-at, row-small, row-far, first-fits, along-start, along-in, along-small, along-far, along-done, next-in, next-small, along-over, along-next}
 use Rattle.grid.proofs.rows.row.Statement.{statement}
 use Rattle.grid.proofs.rows.row.Tie as tie
 
