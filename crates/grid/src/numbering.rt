@@ -1,7 +1,7 @@
 // The number of an edge: the table is filled once, so that refusal 4 goes before 5, and then the edge is read from its end.
 ghost use mathlib.Core.Path.{_≡_};
 ghost use Rattle.job.specs.Replies.{reply, numberSays};
-ghost use Rattle.grid.specs.Plans.{FormFor, Planned, PreparedFor, numberFor};
+ghost use Rattle.grid.specs.Plans.{Planned, PreparedFor, numberFor};
 ghost use Rattle.grid.specs.Filling.{Begun};
 use crate::Answer;
 use crate::edges::read;
@@ -20,7 +20,7 @@ fn number_in(
     p: Plan,
     edge: &[u8],
 ) -> Numbered
-    requires { ⌜ Begun p (now sa) (now sc) (now off) (now val) × FormFor p (now sa) (now sc) ⌝ }
+    requires { ⌜ Begun p (now sa) (now sc) (now off) (now val) ⌝ }
     ensures { λ r. ⌜ numberSays r ≡ reply (numberFor p (now (sa .entry)) (now (sc .entry)) (now (edge .entry))) ⌝ }
 {
     if let Answer::Over = fill(val, sa, sc, off, p) {
@@ -30,7 +30,7 @@ fn number_in(
 }
 
 fn number_128(sa: &[usize; 8], sc: &[usize; 8], off: &[usize; 8], p: Plan, edge: &[u8]) -> Numbered
-    requires { ⌜ PreparedFor p (now sa) (now sc) (now off) 128 × FormFor p (now sa) (now sc) ⌝ }
+    requires { ⌜ PreparedFor p (now sa) (now sc) (now off) 128 ⌝ }
     ensures { λ r. ⌜ numberSays r ≡ reply (numberFor p (now (sa .entry)) (now (sc .entry)) (now (edge .entry))) ⌝ }
 {
     let mut val = [0u64; 128];
@@ -38,7 +38,7 @@ fn number_128(sa: &[usize; 8], sc: &[usize; 8], off: &[usize; 8], p: Plan, edge:
 }
 
 fn number_384(sa: &[usize; 8], sc: &[usize; 8], off: &[usize; 8], p: Plan, edge: &[u8]) -> Numbered
-    requires { ⌜ PreparedFor p (now sa) (now sc) (now off) 384 × FormFor p (now sa) (now sc) ⌝ }
+    requires { ⌜ PreparedFor p (now sa) (now sc) (now off) 384 ⌝ }
     ensures { λ r. ⌜ numberSays r ≡ reply (numberFor p (now (sa .entry)) (now (sc .entry)) (now (edge .entry))) ⌝ }
 {
     let mut val = [0u64; 384];
@@ -46,7 +46,7 @@ fn number_384(sa: &[usize; 8], sc: &[usize; 8], off: &[usize; 8], p: Plan, edge:
 }
 
 fn number_1280(sa: &[usize; 8], sc: &[usize; 8], off: &[usize; 8], p: Plan, edge: &[u8]) -> Numbered
-    requires { ⌜ PreparedFor p (now sa) (now sc) (now off) 1280 × FormFor p (now sa) (now sc) ⌝ }
+    requires { ⌜ PreparedFor p (now sa) (now sc) (now off) 1280 ⌝ }
     ensures { λ r. ⌜ numberSays r ≡ reply (numberFor p (now (sa .entry)) (now (sc .entry)) (now (edge .entry))) ⌝ }
 {
     let mut val = [0u64; 1280];
@@ -54,7 +54,7 @@ fn number_1280(sa: &[usize; 8], sc: &[usize; 8], off: &[usize; 8], p: Plan, edge
 }
 
 fn number_2496(sa: &[usize; 8], sc: &[usize; 8], off: &[usize; 8], p: Plan, edge: &[u8]) -> Numbered
-    requires { ⌜ PreparedFor p (now sa) (now sc) (now off) 2496 × FormFor p (now sa) (now sc) ⌝ }
+    requires { ⌜ PreparedFor p (now sa) (now sc) (now off) 2496 ⌝ }
     ensures { λ r. ⌜ numberSays r ≡ reply (numberFor p (now (sa .entry)) (now (sc .entry)) (now (edge .entry))) ⌝ }
 {
     let mut val = [0u64; 2496];
@@ -62,7 +62,7 @@ fn number_2496(sa: &[usize; 8], sc: &[usize; 8], off: &[usize; 8], p: Plan, edge
 }
 
 fn number_3712(sa: &[usize; 8], sc: &[usize; 8], off: &[usize; 8], p: Plan, edge: &[u8]) -> Numbered
-    requires { ⌜ PreparedFor p (now sa) (now sc) (now off) 3712 × FormFor p (now sa) (now sc) ⌝ }
+    requires { ⌜ PreparedFor p (now sa) (now sc) (now off) 3712 ⌝ }
     ensures { λ r. ⌜ numberSays r ≡ reply (numberFor p (now (sa .entry)) (now (sc .entry)) (now (edge .entry))) ⌝ }
 {
     let mut val = [0u64; 3712];

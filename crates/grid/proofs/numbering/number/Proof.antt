@@ -13,7 +13,7 @@ cells-of-requires c κs =
 
 number-128-requires : tie.Need-number-128-requires
 number-128-requires c κs =
-    (prepared-for (c .before .before .before .before .before .pre) (c .before .before .before .offsets .ensures) (c .before .before .cells-of .ensures) 128 (c .before .if1 .taken), c .before .before .before .before .before .pre .form)
+    prepared-for (c .before .before .before .before .before .pre) (c .before .before .before .offsets .ensures) (c .before .before .cells-of .ensures) 128 (c .before .if1 .taken)
 
 returns : tie.Need-returns
 returns c =
@@ -21,7 +21,7 @@ returns c =
 
 number-384-requires : tie.Need-number-384-requires
 number-384-requires c κs =
-    (prepared-for (c .before .before .before .before .before .before .pre) (c .before .before .before .before .offsets .ensures) (c .before .before .before .cells-of .ensures) 384 (c .before .if2 .taken), c .before .before .before .before .before .before .pre .form)
+    prepared-for (c .before .before .before .before .before .before .pre) (c .before .before .before .before .offsets .ensures) (c .before .before .before .cells-of .ensures) 384 (c .before .if2 .taken)
 
 returns-2 : tie.Need-returns-2
 returns-2 c =
@@ -29,7 +29,7 @@ returns-2 c =
 
 number-1280-requires : tie.Need-number-1280-requires
 number-1280-requires c κs =
-    (prepared-for (c .before .before .before .before .before .before .before .pre) (c .before .before .before .before .before .offsets .ensures) (c .before .before .before .before .cells-of .ensures) 1280 (c .before .if3 .taken), c .before .before .before .before .before .before .before .pre .form)
+    prepared-for (c .before .before .before .before .before .before .before .pre) (c .before .before .before .before .before .offsets .ensures) (c .before .before .before .before .cells-of .ensures) 1280 (c .before .if3 .taken)
 
 returns-3 : tie.Need-returns-3
 returns-3 c =
@@ -37,7 +37,7 @@ returns-3 c =
 
 number-2496-requires : tie.Need-number-2496-requires
 number-2496-requires c κs =
-    (prepared-for (c .before .before .before .before .before .before .before .before .pre) (c .before .before .before .before .before .before .offsets .ensures) (c .before .before .before .before .before .cells-of .ensures) 2496 (c .before .if4 .taken), c .before .before .before .before .before .before .before .before .pre .form)
+    prepared-for (c .before .before .before .before .before .before .before .before .pre) (c .before .before .before .before .before .before .offsets .ensures) (c .before .before .before .before .before .cells-of .ensures) 2496 (c .before .if4 .taken)
 
 returns-4 : tie.Need-returns-4
 returns-4 c =
@@ -45,7 +45,7 @@ returns-4 c =
 
 number-3712-requires : tie.Need-number-3712-requires
 number-3712-requires c κs =
-    (prepared-last (c .before .before .before .before .before .before .before .before .pre) (c .before .before .before .before .before .before .offsets .ensures), c .before .before .before .before .before .before .before .before .pre .form)
+    prepared-last (c .before .before .before .before .before .before .before .before .pre) (c .before .before .before .before .before .before .offsets .ensures)
 
 returns-5 : tie.Need-returns-5
 returns-5 c =

@@ -25,7 +25,7 @@ enum-told-2 c = search needs
 
 read-requires : tie.Need-read-requires
 read-requires c κs =
-    record { ready = ready-len (c .before .before .before .before .before .before .before .before .before .pre .0 .ready) (search needs); solid = c .before .before .before .before .before .fill .ensures .solid (count-over (c .before .enum-told2 .given .1)); fits = cap-count _ _ (sym (c .before .before .before .before .before .fill .ensures .answer) ∙ c .before .enum-told2 .given .1) .1 }
+    record { ready = ready-len (c .before .before .before .before .before .before .before .before .before .pre .ready) (search needs); solid = c .before .before .before .before .before .fill .ensures .solid (count-over (c .before .enum-told2 .given .1)); fits = cap-count _ _ (sym (c .before .before .before .before .before .fill .ensures .answer) ∙ c .before .enum-told2 .given .1) .1 }
 
 same-length-2 : tie.Need-same-length-2
 same-length-2 c = search needs
