@@ -177,7 +177,7 @@ steps-ok true false n m = eight (λ i. T (ok 2 i (getD (shapeBy true false n m .
 steps-ok false true n m = eight (λ i. T (ok 3 i (getD (shapeBy false true n m .sa) i 0) (getD (shapeBy false true n m .sc) i 0))) tt tt tt tt tt tt tt tt
 steps-ok false false n m = eight (λ i. T (ok 2 i (getD (shapeBy false false n m .sa) i 0) (getD (shapeBy false false n m .sc) i 0))) tt tt tt tt tt tt tt tt
 
--- the end is the lesser of n and m where it is at 33 or below, since neither is above 64
+-- an end at height 33 or below is in column 97 or before it
 across : (t : Bool) (n m : ℕ) → n ≤ 64 → m ≤ 64 → pick t n m ≤ 33 → n + m ≤ 97
 across true n m a b l = omega arith
 across false n m a b l = omega arith

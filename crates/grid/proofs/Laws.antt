@@ -8,7 +8,7 @@
 --   via-left, via-under, via-in      what a step brings
 --   via-any                          what holds of 0 and of every count before holds of what a step brings
 --   via-none, W-sum                  a step that isn't there brings 0, so the sum over all eight is the count
---   cap-lt, cap-ge, cap-count, cap-over, count-over, cell-zero, cell-over, cell-is, cell-value    answers
+--   cap-lt, cap-ge, cap-count, cap-over, count-over, cell-zero, cell-over, cell-value    answers
 --   total-done, total-over, total-more, total-wraps    the loop over the steps
 --   put-is                           a cell written
 use mathlib.Core.Path.{_≡_, refl, sym, ap, _∙_}
@@ -134,9 +134,6 @@ cell-zero v o e = rw (eq-eqb o 0 e)
 pub cell-over : (v o : ℕ) → (o ≡ 0 → ⊥) → cellOf v o ≡ Over
 unfolding cellOf
 cell-over v o e = rw (ne-eqb o 0 e)
-
-pub cell-is : (v w : ℕ) → v ≡ w → v < 2 ^ 64 → cellOf v 0 ≡ capOf w
-cell-is v w e h = cell-zero v 0 refl ∙ sym (cap-lt v h) ∙ ap capOf e
 
 -- a cell of a number that fits has it
 cellBy : (b : Bool) (v w : ℕ) → pick b (Count v) Over ≡ Count w → v ≡ w

@@ -5,7 +5,7 @@
 --   Few                  where few is true, only the first four steps are there
 --   Slopes               hi is six times the steepest step, m the deepest; what isn't there is too far
 --   Sizes                bounds of the numbers, so that no place of a cell is above 64 bits
---   Ready, Prepared      all of these, for a table of values and for a table of that size
+--   Prepared             all of these, for a table of that size
 --   Ends hi ex ey u y    from height y of column u the end's height can still be reached
 --   Fence f x r          r is the lowest height of column x that the wall f allows if it is a fence, else 0
 --   Roof f x y r         r is the highest that it allows if it is a roof, or y where that is lower
@@ -60,9 +60,6 @@ pub record Prepared (few : Bool) (k f : ℕ) (sa sc off : List ℕ) (hi m ex ey 
   pub offs : Offsets sa sc off (strideOf m ey)
   pub fewer : Few few sa ex
   pub room : (ex + 2) * strideOf m ey ≤ size
-
-abbrev pub Ready : Bool → ℕ → ℕ → List ℕ → List ℕ → List ℕ → ℕ → ℕ → ℕ → ℕ → List ℕ → Type 0
-Ready few k f sa sc off hi m ex ey val = Prepared few k f sa sc off hi m ex ey (length val)
 
 abbrev pub Ends : ℕ → ℕ → ℕ → ℕ → ℕ → Type 0
 Ends hi ex ey u y = (y ≤ ey) × (6 * ey ≤ 6 * y + hi * (ex - u))

@@ -14,8 +14,8 @@ pub(crate) struct Corner {
     pub diagonal: bool,
 }
 
-// The greatest lesser of n and m: where both are above it the count needs more than 64 bits, and the table would be too large.
-pub(crate) const MOST: usize = 33;
+// The highest end that a table is filled for: where n and m are both above it the count needs more than 64 bits.
+pub(crate) const HIGHEST: usize = 33;
 
 pub(crate) fn corner_of(job: Job) -> Corner
     requires { ⌜ 128 ≤ job .m ⌝ }

@@ -105,7 +105,7 @@ fn number_corner(c: Corner, edge: &[u8]) -> Numbered
     ensures { λ r. ⌜ NumbersOf (cornerJob c) (now (edge .entry)) r ⌝ }
 {
     let p = corner::plan(c);
-    if corner::MOST < p.ey {
+    if corner::HIGHEST < p.ey {
         return Numbered::Refused(4);
     }
     let sa = corner::right(c);
@@ -156,7 +156,7 @@ fn build_corner(c: Corner, numbers: &[u64], steps: &mut [u8], ends: &mut [usize]
     ensures { λ r. ⌜ BuildsOf (cornerJob c) (now (numbers .entry)) (now (steps .entry)) (now (ends .entry)) (now (steps .exit)) (now (ends .exit)) r ⌝ }
 {
     let p = corner::plan(c);
-    if corner::MOST < p.ey {
+    if corner::HIGHEST < p.ey {
         return Built::Refused(4);
     }
     let sa = corner::right(c);

@@ -1,6 +1,5 @@
 -- `grid::count` meets its contract: by family, by the job maker's answer, and by the job's corner or shape. Assumes nothing.
 use mathlib.Core.Path.{refl, sym, _∙_}
-use native.Mathlib.Omega.{arith}
 use Rattle.job.proofs.Standing.{kept-of, told-of}
 use Rattle.grid.specs.Corners.{cornerOf}
 use Rattle.grid.proofs.Counted.{square-reply, count-told-reply, sound-of, countable-of, count-reply, count-shaped}
@@ -27,7 +26,7 @@ returns-2 c =
 
 sub-count : tie.Need-sub-count
 sub-count c =
-    corner-level _ (sound-of (c .before .before .before .before .before .before .before .before .before .args .block .now) (c .before .before .before .before .before .of .result .job) (kept-of (c .before .before .before .before .before .before .before .before .before .args .block .now) (c .before .before .before .before .before .of .result) (λ i. omega (arith, c .before .before .before .before .before .before .before .before .shared-slice-known .given i)) (c .before .before .before .before .before .of .ensures) (c .before .before .before .before .if2 .left)) (sym (c .before .before .before .before .before .before .before .is-square .ensures) ∙ c .before .before .before .before .before .before .if1 .left)) (c .before .if3 .taken) .m-least
+    corner-level _ (sound-of (c .before .before .before .before .before .before .before .before .before .args .block .now) (c .before .before .before .before .before .of .result .job) (kept-of (c .before .before .before .before .before .before .before .before .before .args .block .now) (c .before .before .before .before .before .of .result) (λ i. c .before .before .before .before .before .before .before .before .shared-slice-known .given i .fits) (c .before .before .before .before .before .of .ensures) (c .before .before .before .before .if2 .left)) (sym (c .before .before .before .before .before .before .before .is-square .ensures) ∙ c .before .before .before .before .before .before .if1 .left)) (c .before .if3 .taken) .m-least
 
 count-requires : tie.Need-count-requires
 count-requires c κs =
@@ -35,19 +34,19 @@ count-requires c κs =
 
 returns-3 : tie.Need-returns-3
 returns-3 c =
-    count-reply (c .before .before .before .before .before .before .before .before .before .before .before .args .block .now) _ (c .count .result) (sym (c .before .before .before .before .before .before .before .before .before .is-square .ensures) ∙ c .before .before .before .before .before .before .before .before .if1 .left) (corner-answer (c .before .before .before .before .before .before .before .before .before .before .before .args .block .now) (c .before .before .before .before .before .before .before .of .result .job) (kept-of (c .before .before .before .before .before .before .before .before .before .before .before .args .block .now) (c .before .before .before .before .before .before .before .of .result) (λ i. omega (arith, c .before .before .before .before .before .before .before .before .before .before .shared-slice-known .given i)) (c .before .before .before .before .before .before .before .of .ensures) (c .before .before .before .before .before .before .if2 .left)) (sym (c .before .before .before .before .before .before .before .before .before .is-square .ensures) ∙ c .before .before .before .before .before .before .before .before .if1 .left) (c .before .before .before .if3 .taken) (cornerOf (c .before .before .before .before .before .before .before .of .result .job)) refl) (corner-counts (cornerOf (c .before .before .before .before .before .before .before .of .result .job)) (c .count .result) (c .count .ensures))
+    count-reply (c .before .before .before .before .before .before .before .before .before .before .before .args .block .now) _ (c .count .result) (sym (c .before .before .before .before .before .before .before .before .before .is-square .ensures) ∙ c .before .before .before .before .before .before .before .before .if1 .left) (corner-answer (c .before .before .before .before .before .before .before .before .before .before .before .args .block .now) (c .before .before .before .before .before .before .before .of .result .job) (kept-of (c .before .before .before .before .before .before .before .before .before .before .before .args .block .now) (c .before .before .before .before .before .before .before .of .result) (λ i. c .before .before .before .before .before .before .before .before .before .before .shared-slice-known .given i .fits) (c .before .before .before .before .before .before .before .of .ensures) (c .before .before .before .before .before .before .if2 .left)) (sym (c .before .before .before .before .before .before .before .before .before .is-square .ensures) ∙ c .before .before .before .before .before .before .before .before .if1 .left) (c .before .before .before .if3 .taken) (cornerOf (c .before .before .before .before .before .before .before .of .result .job)) refl) (corner-counts (cornerOf (c .before .before .before .before .before .before .before .of .result .job)) (c .count .result) (c .count .ensures))
 
 shape-of-requires : tie.Need-shape-of-requires
 shape-of-requires c κs =
-    (sound-of (c .before .before .before .before .before .before .before .before .args .block .now) (c .before .before .before .before .of .result .job) (kept-of (c .before .before .before .before .before .before .before .before .args .block .now) (c .before .before .before .before .of .result) (λ i. omega (arith, c .before .before .before .before .before .before .before .shared-slice-known .given i)) (c .before .before .before .before .of .ensures) (c .before .before .before .if2 .left)) (sym (c .before .before .before .before .before .before .is-square .ensures) ∙ c .before .before .before .before .before .if1 .left), c .if3 .left)
+    (sound-of (c .before .before .before .before .before .before .before .before .args .block .now) (c .before .before .before .before .of .result .job) (kept-of (c .before .before .before .before .before .before .before .before .args .block .now) (c .before .before .before .before .of .result) (λ i. c .before .before .before .before .before .before .before .shared-slice-known .given i .fits) (c .before .before .before .before .of .ensures) (c .before .before .before .if2 .left)) (sym (c .before .before .before .before .before .before .is-square .ensures) ∙ c .before .before .before .before .before .if1 .left), c .if3 .left)
 
 count-shape-requires : tie.Need-count-shape-requires
 count-shape-requires c κs =
-    countable-of (c .before .before .before .before .before .before .before .before .before .args .block .now) (c .before .before .before .before .before .of .result .job) (kept-of (c .before .before .before .before .before .before .before .before .before .args .block .now) (c .before .before .before .before .before .of .result) (λ i. omega (arith, c .before .before .before .before .before .before .before .before .shared-slice-known .given i)) (c .before .before .before .before .before .of .ensures) (c .before .before .before .before .if2 .left)) (sym (c .before .before .before .before .before .before .before .is-square .ensures) ∙ c .before .before .before .before .before .before .if1 .left) (c .shape-of .ensures)
+    countable-of (c .before .before .before .before .before .before .before .before .before .args .block .now) (c .before .before .before .before .before .of .result .job) (kept-of (c .before .before .before .before .before .before .before .before .before .args .block .now) (c .before .before .before .before .before .of .result) (λ i. c .before .before .before .before .before .before .before .before .shared-slice-known .given i .fits) (c .before .before .before .before .before .of .ensures) (c .before .before .before .before .if2 .left)) (sym (c .before .before .before .before .before .before .before .is-square .ensures) ∙ c .before .before .before .before .before .before .if1 .left) (c .shape-of .ensures)
 
 returns-4 : tie.Need-returns-4
 returns-4 c =
-    count-shaped (c .before .before .before .before .before .before .before .before .before .before .args .block .now) (c .before .before .before .before .before .before .of .result .job) (kept-of (c .before .before .before .before .before .before .before .before .before .before .args .block .now) (c .before .before .before .before .before .before .of .result) (λ i. omega (arith, c .before .before .before .before .before .before .before .before .before .shared-slice-known .given i)) (c .before .before .before .before .before .before .of .ensures) (c .before .before .before .before .before .if2 .left)) (sym (c .before .before .before .before .before .before .before .before .is-square .ensures) ∙ c .before .before .before .before .before .before .before .if1 .left) (c .before .shape-of .ensures) (c .count-shape .result) (c .count-shape .ensures)
+    count-shaped (c .before .before .before .before .before .before .before .before .before .before .args .block .now) (c .before .before .before .before .before .before .of .result .job) (kept-of (c .before .before .before .before .before .before .before .before .before .before .args .block .now) (c .before .before .before .before .before .before .of .result) (λ i. c .before .before .before .before .before .before .before .before .before .shared-slice-known .given i .fits) (c .before .before .before .before .before .before .of .ensures) (c .before .before .before .before .before .if2 .left)) (sym (c .before .before .before .before .before .before .before .before .is-square .ensures) ∙ c .before .before .before .before .before .before .before .if1 .left) (c .before .shape-of .ensures) (c .count-shape .result) (c .count-shape .ensures)
 
 pub count-spec : {M : Type 1} → statement M
 count-spec =
