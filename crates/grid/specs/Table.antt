@@ -21,7 +21,7 @@ use mathlib.Core.Bool.{Bool, true}
 use mathlib.Core.List.{List}
 use Prim.Native.Nat.{ℕ, _+_, _-_, _*_, _≤_, _<_}
 use lib.Dec.{T}
-use lib.ListN.{length, getD}
+use lib.ListN.{getD}
 use Rattle.grid.specs.Form.{roof, wall, W}
 use Rattle.grid.specs.Cells.{capOf, cellAt, strideOf, place}
 
