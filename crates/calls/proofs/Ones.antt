@@ -2,12 +2,14 @@
 --
 --   One, one-built    what was lined is the edge; one-put: put to the output
 --   one-refused       the refusal
+--   one-whole         what was lined in the output itself
 use mathlib.Core.Path.{_≡_, refl, sym, ap, _∙_}
 use mathlib.Core.List.{List, [], _∷_, _++_, append-nil}
 use Prim.Native.Nat.{ℕ, _≤_}
 use native.Mathlib.Omega.{arith}
 use lib.ListN.{length, take, drop, length-append}
 use lib.Seq.{take-at}
+use borrow.Author.Tests.{le-leb}
 use Rattle.rules.specs.Refusals.{Answer, andThen}
 use Rattle.rules.specs.Refusals.Answer.{accepted, refused}
 use Rattle.rules.specs.Answers.{edgeAnswer, written, buildAnswer}
@@ -15,6 +17,7 @@ use Rattle.rules.specs.Packs.{joined}
 use Rattle.rules.specs.Questions.{edgesAnswer}
 use Rattle.rules.proofs.Answering.{edges-of-one, build-of}
 use Rattle.job.specs.Replies.{BuiltAs}
+use Rattle.job.specs.Replies.Reply.{value}
 use Rattle.job.specs.declared.Built.{Built}
 use Rattle.job.specs.declared.Built.the-variants.{Length, Refused}
 use Rattle.job.proofs.Says.{value-one, value-not}
@@ -60,3 +63,16 @@ module _ (b : List ℕ) (n : ℕ) (steps ends : List ℕ) (room : 128 ≤ length
       go : (a : Answer (List ℕ)) → LinedAs (lined (alone a) steps ends) (Refused r) s t → BuiltAs (written a out) (Refused r) out
       go (accepted e) v = absurd (value-not (sym (v .says)))
       go (refused x) v = record { says = v .says; output = refl }
+
+  -- where the steps are the output itself
+  pub one-whole : (x : Built) (s t : List ℕ) → length s ≡ length steps → LinedAs (lines (edgesAnswer b (n ∷ [])) (n ∷ []) steps ends) x s t → BuiltAs (buildAnswer b n steps) x s
+  unfolding lined joined written
+  one-whole x s t h w = rw (build-of b n steps) (go (edgeAnswer b n) (of-one x s t w))
+    where
+      go : (a : Answer (List ℕ)) → LinedAs (lined (alone a) steps ends) x s t → BuiltAs (written a steps) x s
+      go (accepted e) v =
+          let whole : e ++ [] ≡ e = append-nil e in
+          let same : s ≡ e ++ drop (length e) steps = v .bytes ∙ ap (λ (z : List ℕ). z ++ drop (length z) steps) whole in
+          let fits : length e ≤ length steps = omega (arith, h, ap length same, length-append e (drop (length e) steps)) in
+          rw (le-leb (length e) (length steps) fits) (record { says = v .says ∙ ap (λ (z : List ℕ). value (length z)) whole; output = same })
+      go (refused y) v = record { says = v .says; output = v .bytes }

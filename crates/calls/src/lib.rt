@@ -62,13 +62,16 @@ pub fn build_all(block: &[u8], numbers: &[u64], steps: &mut [u8], ends: &mut [us
     grid::build_all(block, numbers, steps, ends)
 }
 
-// The edge of a number, written to the front of the output.
+// The edge of a number, written to the front of the output: straight to it where every edge fits, else by a buffer.
 pub fn build(block: &[u8], number: u64, out: &mut [u8]) -> Built
     ensures { λ r. ⌜ BuiltAs (buildAnswer (now (block .entry)) number (now (out .entry))) r (now (out .exit)) ⌝ }
 {
     let numbers = [number];
-    let mut steps = [0u8; 128];
     let mut ends = [0usize; 1];
+    if lines::Line::LONGEST <= out.len() {
+        return build_all(block, &numbers, out, &mut ends);
+    }
+    let mut steps = [0u8; 128];
     match build_all(block, &numbers, &mut steps, &mut ends) {
         Built::Length(n) => job::put(&steps[..n], out),
         Built::Refused(r) => Built::Refused(r),
