@@ -56,11 +56,11 @@ module _ {d : Bool} {v m r i rest c : ℕ} (f : Falls d v m r i rest) (ec : c �
   pub spot-pos : 0 < c
   spot-pos = rw ec (pos-of-product (count d v i) (count d v (m - i)) rest (f .fits))
 
-  pub spot-rem : rest % c < count d v i
-  spot-rem = omega (arith, mod-lt rest spot-pos)
+  pub spot-rem : (x : ℕ) → x ≡ rest % c → x < count d v i
+  spot-rem x e = omega (arith, mod-lt rest spot-pos)
 
-  pub spot-quot : rest / c < count d v (m - i)
-  spot-quot = div-lt-iff-lt-mul spot-pos .1 (rw (ec, mul-comm) (f .fits))
+  pub spot-quot : (y : ℕ) → y ≡ rest / c → y < count d v (m - i)
+  spot-quot y e = rw e (div-lt-iff-lt-mul spot-pos .1 (rw (ec, mul-comm) (f .fits)))
 
 -- ---- the trees
 tree-dee : (d : Bool) (v n r : ℕ) (pos : 0 < n) (p : T d) → r < count d v (n - 1) → r < count d v n
@@ -80,8 +80,8 @@ tree-arch d v n r hd i rest c x y ex ey pos lt eh le w f ec =
     let j : ℕ = n - 1 - v - i in
     let t = build d v i i x in
     let u = build d v j j y in
-    let bt = build-built d v i i x (omega arith) (rw ex (spot-rem f ec)) in
-    let bu = build-built d v j j y (omega arith) (rw ey (spot-quot f ec)) in
+    let bt = build-built d v i i x (omega arith) (spot-rem f ec x ex) in
+    let bu = build-built d v j j y (omega arith) (spot-quot f ec y ey) in
     let m : size d v t + size d v u ≡ n - 1 - v = omega (arith, bt .sized, bu .sized, f .below) in
     let g : n - 1 - v + v ≡ n - 1 = omega arith in
     let z : c * y ≡ count d v i * y = ap (λ (z : ℕ). z * y) ec in

@@ -1,5 +1,6 @@
 -- By rows of the lesser of n and m; n and m may be turned. Assumes nothing.
 use mathlib.Core.Path.{_∙_}
+use native.Mathlib.Omega.{arith}
 use Rattle.corners.proofs.Ends.{ends-over}
 use Rattle.corners.proofs.Rows.{over-says, turned-says}
 use borrow.Author.Needs.{needs}
@@ -7,13 +8,13 @@ use Rattle.corners.proofs.count.Statement.{statement}
 use Rattle.corners.proofs.count.Tie as tie
 
 count-rows-requires : tie.Need-count-rows-requires
-count-rows-requires c κs = search needs
+count-rows-requires c κs = omega (arith, c .if1 .taken)
 
 returns : tie.Need-returns
 returns c = search needs
 
 count-rows-requires-2 : tie.Need-count-rows-requires-2
-count-rows-requires-2 c κs = search needs
+count-rows-requires-2 c κs = omega (arith, c .if2 .taken)
 
 returns-2 : tie.Need-returns-2
 returns-2 c =

@@ -390,7 +390,7 @@ ending-inside-requires : (t : ℕ) → ending-lts.Need-inside-requires (
   inside.Post,
 ) (ending-at t) ending.Post
 ending-inside-requires t c κs =
-    (falls-inside _ _ _ (c .before .before .before .before .before .before .before .before .before .before .pre .0) (second-less _ _ _ (c .before .before .before .before .before .before .before .before .before .before .pre .1 .5)), (table-less (c .before .before .before .before .before .before .before .before .before .before .args .d) (c .before .before .before .before .before .before .before .before .before .before .args .v) (c .before .before .before .before .before .before .before .before .before .before .args .n) _ (c .before .before .before .before .before .before .before .before .before .before .args .table .now) (second-le _ _ _) (c .before .before .before .before .before .before .before .before .before .before .pre .1 .0), (rw (c .before .times .ensures) (spot-quot (c .before .before .before .before .locate .ensures) ((c .before .before .before .before .before .before .before .before .before .before .pre .1 .0) .full (c .before .before .before .before .locate .result .at) (first-le _ _ _ (c .before .before .before .before .locate .ensures .below))))), room-last _ (c .before .before .before .before .before .before .before .before .before .before .args .n) _ (second-less _ _ _ (c .before .before .before .before .before .before .before .before .before .before .pre .1 .5)) (c .before .before .before .before .before .before .before .before .before .before .pre .1 .2), le-of-lt (c .before .before .before .before .before .before .before .before .before .before .pre .1 .3), length-set (c .before .before .before .before .before .before .before .before .before .before .args .buf .now) (c .before .before .before .before .before .before .before .before .before .before .args .last) _ ∙ (c .before .before .before .before .before .before .before .before .before .before .pre .1 .4)))
+    (falls-inside _ _ _ (c .before .before .before .before .before .before .before .before .before .before .pre .0) (second-less _ _ _ (c .before .before .before .before .before .before .before .before .before .before .pre .1 .5)), (table-less (c .before .before .before .before .before .before .before .before .before .before .args .d) (c .before .before .before .before .before .before .before .before .before .before .args .v) (c .before .before .before .before .before .before .before .before .before .before .args .n) _ (c .before .before .before .before .before .before .before .before .before .before .args .table .now) (second-le _ _ _) (c .before .before .before .before .before .before .before .before .before .before .pre .1 .0), (spot-quot (c .before .before .before .before .locate .ensures) ((c .before .before .before .before .before .before .before .before .before .before .pre .1 .0) .full (c .before .before .before .before .locate .result .at) (first-le _ _ _ (c .before .before .before .before .locate .ensures .below))) (c .before .times .result) (c .before .times .ensures)), room-last _ (c .before .before .before .before .before .before .before .before .before .before .args .n) _ (second-less _ _ _ (c .before .before .before .before .before .before .before .before .before .before .pre .1 .5)) (c .before .before .before .before .before .before .before .before .before .before .pre .1 .2), le-of-lt (c .before .before .before .before .before .before .before .before .before .before .pre .1 .3), length-set (c .before .before .before .before .before .before .before .before .before .before .args .buf .now) (c .before .before .before .before .before .before .before .before .before .before .args .last) _ ∙ (c .before .before .before .before .before .before .before .before .before .before .pre .1 .4)))
 
 ending-sub-east : (t : ℕ) → ending-lts.Need-sub-east (
   d-count-reads.Asked,
@@ -407,7 +407,7 @@ ending-sub-east : (t : ℕ) → ending-lts.Need-sub-east (
   inside.Post,
 ) (ending-at t) ending.Post
 ending-sub-east t c =
-    (insides (c .before .before .before .before .before .before .before .before .before .before .before .args .n) (c .before .before .before .before .before .locate .result .at) (c .before .before .before .before .before .before .before .before .before .before .before .pre .1 .5) (wide (c .before .before .before .before .before .before .before .before .before .before .before .args .d) (c .before .before .before .before .before .before .before .before .before .before .before .args .v) (c .before .before .before .before .before .before .before .before .before .before .before .args .n) (c .before .before .before .before .before .before .before .before .before .before .before .args .r) (c .before .before .before .before .before .before .before .before .before .d-count .result) (c .before .before .before .before .before .before .before .before .before .before .before .pre .1 .5) (c .before .before .before .before .before .before .before .before .before .d-count .ensures) (c .before .before .before .before .before .before .before .before .before .before .before .pre .1 .1) (c .before .before .before .before .before .before .before .before .if1 .left)) (c .before .before .before .before .before .locate .ensures .below) (c .before .before .before .before .before .before .before .before .before .before .before .pre .1 .2) (c .before .before .before .before .before .before .before .before .before .before .before .pre .1 .3) (rw (c .before .before .times .ensures) (spot-quot (c .before .before .before .before .before .locate .ensures) ((c .before .before .before .before .before .before .before .before .before .before .before .pre .1 .0) .full (c .before .before .before .before .before .locate .result .at) (first-le _ _ _ (c .before .before .before .before .before .locate .ensures .below))))) (c .inside .ensures)) .some
+    (insides (c .before .before .before .before .before .before .before .before .before .before .before .args .n) (c .before .before .before .before .before .locate .result .at) (c .before .before .before .before .before .before .before .before .before .before .before .pre .1 .5) (wide (c .before .before .before .before .before .before .before .before .before .before .before .args .d) (c .before .before .before .before .before .before .before .before .before .before .before .args .v) (c .before .before .before .before .before .before .before .before .before .before .before .args .n) (c .before .before .before .before .before .before .before .before .before .before .before .args .r) (c .before .before .before .before .before .before .before .before .before .d-count .result) (c .before .before .before .before .before .before .before .before .before .before .before .pre .1 .5) (c .before .before .before .before .before .before .before .before .before .d-count .ensures) (c .before .before .before .before .before .before .before .before .before .before .before .pre .1 .1) (c .before .before .before .before .before .before .before .before .if1 .left)) (c .before .before .before .before .before .locate .ensures .below) (c .before .before .before .before .before .before .before .before .before .before .before .pre .1 .2) (c .before .before .before .before .before .before .before .before .before .before .before .pre .1 .3) (spot-quot (c .before .before .before .before .before .locate .ensures) ((c .before .before .before .before .before .before .before .before .before .before .before .pre .1 .0) .full (c .before .before .before .before .before .locate .result .at) (first-le _ _ _ (c .before .before .before .before .before .locate .ensures .below))) (c .before .before .times .result) (c .before .before .times .ensures)) (c .inside .ensures)) .some
 
 ending-element-write-buf-3 : (t : ℕ) → ending-lts.Need-element-write-buf-3 (
   d-count-reads.Asked,
@@ -424,7 +424,7 @@ ending-element-write-buf-3 : (t : ℕ) → ending-lts.Need-element-write-buf-3 (
   inside.Post,
 ) (ending-at t) ending.Post
 ending-element-write-buf-3 t c =
-    (insides (c .before .before .before .before .before .before .before .before .before .before .before .args .n) (c .before .before .before .before .before .locate .result .at) (c .before .before .before .before .before .before .before .before .before .before .before .pre .1 .5) (wide (c .before .before .before .before .before .before .before .before .before .before .before .args .d) (c .before .before .before .before .before .before .before .before .before .before .before .args .v) (c .before .before .before .before .before .before .before .before .before .before .before .args .n) (c .before .before .before .before .before .before .before .before .before .before .before .args .r) (c .before .before .before .before .before .before .before .before .before .d-count .result) (c .before .before .before .before .before .before .before .before .before .before .before .pre .1 .5) (c .before .before .before .before .before .before .before .before .before .d-count .ensures) (c .before .before .before .before .before .before .before .before .before .before .before .pre .1 .1) (c .before .before .before .before .before .before .before .before .if1 .left)) (c .before .before .before .before .before .locate .ensures .below) (c .before .before .before .before .before .before .before .before .before .before .before .pre .1 .2) (c .before .before .before .before .before .before .before .before .before .before .before .pre .1 .3) (rw (c .before .before .times .ensures) (spot-quot (c .before .before .before .before .before .locate .ensures) ((c .before .before .before .before .before .before .before .before .before .before .before .pre .1 .0) .full (c .before .before .before .before .before .locate .result .at) (first-le _ _ _ (c .before .before .before .before .before .locate .ensures .below))))) (c .inside .ensures)) .under
+    (insides (c .before .before .before .before .before .before .before .before .before .before .before .args .n) (c .before .before .before .before .before .locate .result .at) (c .before .before .before .before .before .before .before .before .before .before .before .pre .1 .5) (wide (c .before .before .before .before .before .before .before .before .before .before .before .args .d) (c .before .before .before .before .before .before .before .before .before .before .before .args .v) (c .before .before .before .before .before .before .before .before .before .before .before .args .n) (c .before .before .before .before .before .before .before .before .before .before .before .args .r) (c .before .before .before .before .before .before .before .before .before .d-count .result) (c .before .before .before .before .before .before .before .before .before .before .before .pre .1 .5) (c .before .before .before .before .before .before .before .before .before .d-count .ensures) (c .before .before .before .before .before .before .before .before .before .before .before .pre .1 .1) (c .before .before .before .before .before .before .before .before .if1 .left)) (c .before .before .before .before .before .locate .ensures .below) (c .before .before .before .before .before .before .before .before .before .before .before .pre .1 .2) (c .before .before .before .before .before .before .before .before .before .before .before .pre .1 .3) (spot-quot (c .before .before .before .before .before .locate .ensures) ((c .before .before .before .before .before .before .before .before .before .before .before .pre .1 .0) .full (c .before .before .before .before .before .locate .result .at) (first-le _ _ _ (c .before .before .before .before .before .locate .ensures .below))) (c .before .before .times .result) (c .before .before .times .ensures)) (c .inside .ensures)) .under
 
 ending-spell-requires-2 : (t : ℕ) → ending-lts.Need-spell-requires-2 (
   d-count-reads.Asked,
@@ -441,7 +441,7 @@ ending-spell-requires-2 : (t : ℕ) → ending-lts.Need-spell-requires-2 (
   inside.Post,
 ) (ending-at t) ending.Post
 ending-spell-requires-2 t c κs =
-    (falls-first _ _ _ (c .before .before .before .before .before .before .before .before .before .before .before .before .pre .0) (first-less _ _ _ (c .before .before .before .before .before .before .before .before .before .before .before .before .pre .1 .5) (c .before .before .before .before .before .before .locate .ensures .below)), (table-less (c .before .before .before .before .before .before .before .before .before .before .before .before .args .d) (c .before .before .before .before .before .before .before .before .before .before .before .before .args .v) (c .before .before .before .before .before .before .before .before .before .before .before .before .args .n) (c .before .before .before .before .before .before .locate .result .at) (c .before .before .before .before .before .before .before .before .before .before .before .before .args .table .now) (first-le _ _ _ (c .before .before .before .before .before .before .locate .ensures .below)) (c .before .before .before .before .before .before .before .before .before .before .before .before .pre .1 .0), rw (c .before .before .before .before .left-over .ensures) (spot-rem (c .before .before .before .before .before .before .locate .ensures) ((c .before .before .before .before .before .before .before .before .before .before .before .before .pre .1 .0) .full (c .before .before .before .before .before .before .locate .result .at) (first-le _ _ _ (c .before .before .before .before .before .before .locate .ensures .below)))), (insides (c .before .before .before .before .before .before .before .before .before .before .before .before .args .n) (c .before .before .before .before .before .before .locate .result .at) (c .before .before .before .before .before .before .before .before .before .before .before .before .pre .1 .5) (wide (c .before .before .before .before .before .before .before .before .before .before .before .before .args .d) (c .before .before .before .before .before .before .before .before .before .before .before .before .args .v) (c .before .before .before .before .before .before .before .before .before .before .before .before .args .n) (c .before .before .before .before .before .before .before .before .before .before .before .before .args .r) (c .before .before .before .before .before .before .before .before .before .before .d-count .result) (c .before .before .before .before .before .before .before .before .before .before .before .before .pre .1 .5) (c .before .before .before .before .before .before .before .before .before .before .d-count .ensures) (c .before .before .before .before .before .before .before .before .before .before .before .before .pre .1 .1) (c .before .before .before .before .before .before .before .before .before .if1 .left)) (c .before .before .before .before .before .before .locate .ensures .below) (c .before .before .before .before .before .before .before .before .before .before .before .before .pre .1 .2) (c .before .before .before .before .before .before .before .before .before .before .before .before .pre .1 .3) (rw (c .before .before .before .times .ensures) (spot-quot (c .before .before .before .before .before .before .locate .ensures) ((c .before .before .before .before .before .before .before .before .before .before .before .before .pre .1 .0) .full (c .before .before .before .before .before .before .locate .result .at) (first-le _ _ _ (c .before .before .before .before .before .before .locate .ensures .below))))) (c .before .inside .ensures)) .room, le-of-lt ((insides (c .before .before .before .before .before .before .before .before .before .before .before .before .args .n) (c .before .before .before .before .before .before .locate .result .at) (c .before .before .before .before .before .before .before .before .before .before .before .before .pre .1 .5) (wide (c .before .before .before .before .before .before .before .before .before .before .before .before .args .d) (c .before .before .before .before .before .before .before .before .before .before .before .before .args .v) (c .before .before .before .before .before .before .before .before .before .before .before .before .args .n) (c .before .before .before .before .before .before .before .before .before .before .before .before .args .r) (c .before .before .before .before .before .before .before .before .before .before .d-count .result) (c .before .before .before .before .before .before .before .before .before .before .before .before .pre .1 .5) (c .before .before .before .before .before .before .before .before .before .before .d-count .ensures) (c .before .before .before .before .before .before .before .before .before .before .before .before .pre .1 .1) (c .before .before .before .before .before .before .before .before .before .if1 .left)) (c .before .before .before .before .before .before .locate .ensures .below) (c .before .before .before .before .before .before .before .before .before .before .before .before .pre .1 .2) (c .before .before .before .before .before .before .before .before .before .before .before .before .pre .1 .3) (rw (c .before .before .before .times .ensures) (spot-quot (c .before .before .before .before .before .before .locate .ensures) ((c .before .before .before .before .before .before .before .before .before .before .before .before .pre .1 .0) .full (c .before .before .before .before .before .before .locate .result .at) (first-le _ _ _ (c .before .before .before .before .before .before .locate .ensures .below))))) (c .before .inside .ensures)) .under), length-set (c .before .inside .last .0) _ _ ∙ spelt-before (c .before .before .before .before .before .before .before .before .before .before .before .before .args .buf .now) (c .before .before .before .before .before .before .before .before .before .before .before .before .args .last) _ (c .before .before .before .before .before .before .before .before .before .before .before .before .pre .1 .4) (c .before .before .before .before .before .before .before .before .before .before .before .before .pre .1 .3) (c .before .inside .ensures)))
+    (falls-first _ _ _ (c .before .before .before .before .before .before .before .before .before .before .before .before .pre .0) (first-less _ _ _ (c .before .before .before .before .before .before .before .before .before .before .before .before .pre .1 .5) (c .before .before .before .before .before .before .locate .ensures .below)), (table-less (c .before .before .before .before .before .before .before .before .before .before .before .before .args .d) (c .before .before .before .before .before .before .before .before .before .before .before .before .args .v) (c .before .before .before .before .before .before .before .before .before .before .before .before .args .n) (c .before .before .before .before .before .before .locate .result .at) (c .before .before .before .before .before .before .before .before .before .before .before .before .args .table .now) (first-le _ _ _ (c .before .before .before .before .before .before .locate .ensures .below)) (c .before .before .before .before .before .before .before .before .before .before .before .before .pre .1 .0), spot-rem (c .before .before .before .before .before .before .locate .ensures) ((c .before .before .before .before .before .before .before .before .before .before .before .before .pre .1 .0) .full (c .before .before .before .before .before .before .locate .result .at) (first-le _ _ _ (c .before .before .before .before .before .before .locate .ensures .below))) (c .before .before .before .before .left-over .result) (c .before .before .before .before .left-over .ensures), (insides (c .before .before .before .before .before .before .before .before .before .before .before .before .args .n) (c .before .before .before .before .before .before .locate .result .at) (c .before .before .before .before .before .before .before .before .before .before .before .before .pre .1 .5) (wide (c .before .before .before .before .before .before .before .before .before .before .before .before .args .d) (c .before .before .before .before .before .before .before .before .before .before .before .before .args .v) (c .before .before .before .before .before .before .before .before .before .before .before .before .args .n) (c .before .before .before .before .before .before .before .before .before .before .before .before .args .r) (c .before .before .before .before .before .before .before .before .before .before .d-count .result) (c .before .before .before .before .before .before .before .before .before .before .before .before .pre .1 .5) (c .before .before .before .before .before .before .before .before .before .before .d-count .ensures) (c .before .before .before .before .before .before .before .before .before .before .before .before .pre .1 .1) (c .before .before .before .before .before .before .before .before .before .if1 .left)) (c .before .before .before .before .before .before .locate .ensures .below) (c .before .before .before .before .before .before .before .before .before .before .before .before .pre .1 .2) (c .before .before .before .before .before .before .before .before .before .before .before .before .pre .1 .3) (spot-quot (c .before .before .before .before .before .before .locate .ensures) ((c .before .before .before .before .before .before .before .before .before .before .before .before .pre .1 .0) .full (c .before .before .before .before .before .before .locate .result .at) (first-le _ _ _ (c .before .before .before .before .before .before .locate .ensures .below))) (c .before .before .before .times .result) (c .before .before .before .times .ensures)) (c .before .inside .ensures)) .room, le-of-lt ((insides (c .before .before .before .before .before .before .before .before .before .before .before .before .args .n) (c .before .before .before .before .before .before .locate .result .at) (c .before .before .before .before .before .before .before .before .before .before .before .before .pre .1 .5) (wide (c .before .before .before .before .before .before .before .before .before .before .before .before .args .d) (c .before .before .before .before .before .before .before .before .before .before .before .before .args .v) (c .before .before .before .before .before .before .before .before .before .before .before .before .args .n) (c .before .before .before .before .before .before .before .before .before .before .before .before .args .r) (c .before .before .before .before .before .before .before .before .before .before .d-count .result) (c .before .before .before .before .before .before .before .before .before .before .before .before .pre .1 .5) (c .before .before .before .before .before .before .before .before .before .before .d-count .ensures) (c .before .before .before .before .before .before .before .before .before .before .before .before .pre .1 .1) (c .before .before .before .before .before .before .before .before .before .if1 .left)) (c .before .before .before .before .before .before .locate .ensures .below) (c .before .before .before .before .before .before .before .before .before .before .before .before .pre .1 .2) (c .before .before .before .before .before .before .before .before .before .before .before .before .pre .1 .3) (spot-quot (c .before .before .before .before .before .before .locate .ensures) ((c .before .before .before .before .before .before .before .before .before .before .before .before .pre .1 .0) .full (c .before .before .before .before .before .before .locate .result .at) (first-le _ _ _ (c .before .before .before .before .before .before .locate .ensures .below))) (c .before .before .before .times .result) (c .before .before .before .times .ensures)) (c .before .inside .ensures)) .under), length-set (c .before .inside .last .0) _ _ ∙ spelt-before (c .before .before .before .before .before .before .before .before .before .before .before .before .args .buf .now) (c .before .before .before .before .before .before .before .before .before .before .before .before .args .last) _ (c .before .before .before .before .before .before .before .before .before .before .before .before .pre .1 .4) (c .before .before .before .before .before .before .before .before .before .before .before .before .pre .1 .3) (c .before .inside .ensures)))
 
 ending-returns-2 : (t : ℕ) → ending-lts.Need-returns-2 (
   d-count-reads.Asked,
@@ -458,7 +458,7 @@ ending-returns-2 : (t : ℕ) → ending-lts.Need-returns-2 (
   inside.Post,
 ) (ending-at t) ending.Post
 ending-returns-2 t c =
-    spelt-arch (c .before .before .before .before .before .before .before .before .before .before .before .before .before .args .d) (c .before .before .before .before .before .before .before .before .before .before .before .before .before .args .v) (c .before .before .before .before .before .before .before .before .before .before .before .before .before .args .n) (c .before .before .before .before .before .before .before .before .before .before .before .before .before .args .r) (c .before .before .before .before .before .before .before .before .before .before .before .before .before .args .buf .now) (c .before .before .before .before .before .before .before .before .before .before .before .before .before .args .last) (c .before .before .before .before .before .before .before .before .before .before .before .before .before .pre .1 .5) (c .before .before .before .before .before .before .before .before .before .before .before .before .before .pre .1 .1) (in-as-many _ _ _ _ (c .before .before .before .before .before .before .before .before .before .before .before .before .before .pre .1 .3) (le-refl 128) (c .before .before .before .before .before .before .before .before .before .before .before .before .before .pre .1 .4)) (c .before .before .before .before .before .before .before .before .before .before .before .d-count .result) (c .before .before .before .before .before .before .before .locate .result .at) (c .before .before .before .before .before .before .before .locate .result .rest) _ (c .before .before .before .before .before .left-over .result) (c .before .before .before .before .times .result) (c .before .before .before .before .before .left-over .ensures) (c .before .before .before .before .times .ensures) (c .before .before .before .before .before .before .before .before .before .before .before .d-count .ensures) (c .before .before .before .before .before .before .before .before .before .before .if1 .left) (wide (c .before .before .before .before .before .before .before .before .before .before .before .before .before .args .d) (c .before .before .before .before .before .before .before .before .before .before .before .before .before .args .v) (c .before .before .before .before .before .before .before .before .before .before .before .before .before .args .n) (c .before .before .before .before .before .before .before .before .before .before .before .before .before .args .r) (c .before .before .before .before .before .before .before .before .before .before .before .d-count .result) (c .before .before .before .before .before .before .before .before .before .before .before .before .before .pre .1 .5) (c .before .before .before .before .before .before .before .before .before .before .before .d-count .ensures) (c .before .before .before .before .before .before .before .before .before .before .before .before .before .pre .1 .1) (c .before .before .before .before .before .before .before .before .before .before .if1 .left)) (c .before .before .before .before .before .before .before .locate .ensures) ((c .before .before .before .before .before .before .before .before .before .before .before .before .before .pre .1 .0) .full (c .before .before .before .before .before .before .before .locate .result .at) (first-le _ _ _ (c .before .before .before .before .before .before .before .locate .ensures .below))) (c .before .before .inside .last .0) (c .spell2 .last .0) (c .before .before .inside .result) (c .spell2 .result) ((insides (c .before .before .before .before .before .before .before .before .before .before .before .before .before .args .n) (c .before .before .before .before .before .before .before .locate .result .at) (c .before .before .before .before .before .before .before .before .before .before .before .before .before .pre .1 .5) (wide (c .before .before .before .before .before .before .before .before .before .before .before .before .before .args .d) (c .before .before .before .before .before .before .before .before .before .before .before .before .before .args .v) (c .before .before .before .before .before .before .before .before .before .before .before .before .before .args .n) (c .before .before .before .before .before .before .before .before .before .before .before .before .before .args .r) (c .before .before .before .before .before .before .before .before .before .before .before .d-count .result) (c .before .before .before .before .before .before .before .before .before .before .before .before .before .pre .1 .5) (c .before .before .before .before .before .before .before .before .before .before .before .d-count .ensures) (c .before .before .before .before .before .before .before .before .before .before .before .before .before .pre .1 .1) (c .before .before .before .before .before .before .before .before .before .before .if1 .left)) (c .before .before .before .before .before .before .before .locate .ensures .below) (c .before .before .before .before .before .before .before .before .before .before .before .before .before .pre .1 .2) (c .before .before .before .before .before .before .before .before .before .before .before .before .before .pre .1 .3) (rw (c .before .before .before .before .times .ensures) (spot-quot (c .before .before .before .before .before .before .before .locate .ensures) ((c .before .before .before .before .before .before .before .before .before .before .before .before .before .pre .1 .0) .full (c .before .before .before .before .before .before .before .locate .result .at) (first-le _ _ _ (c .before .before .before .before .before .before .before .locate .ensures .below))))) (c .before .before .inside .ensures)) .some) (c .before .before .inside .ensures) (c .spell2 .ensures)
+    spelt-arch (c .before .before .before .before .before .before .before .before .before .before .before .before .before .args .d) (c .before .before .before .before .before .before .before .before .before .before .before .before .before .args .v) (c .before .before .before .before .before .before .before .before .before .before .before .before .before .args .n) (c .before .before .before .before .before .before .before .before .before .before .before .before .before .args .r) (c .before .before .before .before .before .before .before .before .before .before .before .before .before .args .buf .now) (c .before .before .before .before .before .before .before .before .before .before .before .before .before .args .last) (c .before .before .before .before .before .before .before .before .before .before .before .before .before .pre .1 .5) (c .before .before .before .before .before .before .before .before .before .before .before .before .before .pre .1 .1) (in-as-many _ _ _ _ (c .before .before .before .before .before .before .before .before .before .before .before .before .before .pre .1 .3) (le-refl 128) (c .before .before .before .before .before .before .before .before .before .before .before .before .before .pre .1 .4)) (c .before .before .before .before .before .before .before .before .before .before .before .d-count .result) (c .before .before .before .before .before .before .before .locate .result .at) (c .before .before .before .before .before .before .before .locate .result .rest) _ (c .before .before .before .before .before .left-over .result) (c .before .before .before .before .times .result) (c .before .before .before .before .before .left-over .ensures) (c .before .before .before .before .times .ensures) (c .before .before .before .before .before .before .before .before .before .before .before .d-count .ensures) (c .before .before .before .before .before .before .before .before .before .before .if1 .left) (wide (c .before .before .before .before .before .before .before .before .before .before .before .before .before .args .d) (c .before .before .before .before .before .before .before .before .before .before .before .before .before .args .v) (c .before .before .before .before .before .before .before .before .before .before .before .before .before .args .n) (c .before .before .before .before .before .before .before .before .before .before .before .before .before .args .r) (c .before .before .before .before .before .before .before .before .before .before .before .d-count .result) (c .before .before .before .before .before .before .before .before .before .before .before .before .before .pre .1 .5) (c .before .before .before .before .before .before .before .before .before .before .before .d-count .ensures) (c .before .before .before .before .before .before .before .before .before .before .before .before .before .pre .1 .1) (c .before .before .before .before .before .before .before .before .before .before .if1 .left)) (c .before .before .before .before .before .before .before .locate .ensures) ((c .before .before .before .before .before .before .before .before .before .before .before .before .before .pre .1 .0) .full (c .before .before .before .before .before .before .before .locate .result .at) (first-le _ _ _ (c .before .before .before .before .before .before .before .locate .ensures .below))) (c .before .before .inside .last .0) (c .spell2 .last .0) (c .before .before .inside .result) (c .spell2 .result) ((insides (c .before .before .before .before .before .before .before .before .before .before .before .before .before .args .n) (c .before .before .before .before .before .before .before .locate .result .at) (c .before .before .before .before .before .before .before .before .before .before .before .before .before .pre .1 .5) (wide (c .before .before .before .before .before .before .before .before .before .before .before .before .before .args .d) (c .before .before .before .before .before .before .before .before .before .before .before .before .before .args .v) (c .before .before .before .before .before .before .before .before .before .before .before .before .before .args .n) (c .before .before .before .before .before .before .before .before .before .before .before .before .before .args .r) (c .before .before .before .before .before .before .before .before .before .before .before .d-count .result) (c .before .before .before .before .before .before .before .before .before .before .before .before .before .pre .1 .5) (c .before .before .before .before .before .before .before .before .before .before .before .d-count .ensures) (c .before .before .before .before .before .before .before .before .before .before .before .before .before .pre .1 .1) (c .before .before .before .before .before .before .before .before .before .before .if1 .left)) (c .before .before .before .before .before .before .before .locate .ensures .below) (c .before .before .before .before .before .before .before .before .before .before .before .before .before .pre .1 .2) (c .before .before .before .before .before .before .before .before .before .before .before .before .before .pre .1 .3) (spot-quot (c .before .before .before .before .before .before .before .locate .ensures) ((c .before .before .before .before .before .before .before .before .before .before .before .before .before .pre .1 .0) .full (c .before .before .before .before .before .before .before .locate .result .at) (first-le _ _ _ (c .before .before .before .before .before .before .before .locate .ensures .below))) (c .before .before .before .before .times .result) (c .before .before .before .before .times .ensures)) (c .before .before .inside .ensures)) .some) (c .before .before .inside .ensures) (c .spell2 .ensures)
 
 inside-returns :
     (t : ℕ) → inside-lts.Need-returns (spell-below t, spell.Post) (inside-at t) inside.Post
