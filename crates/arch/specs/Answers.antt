@@ -12,14 +12,18 @@ use lib.ListN.{length, take, drop}
 use Rattle.arches.specs.Trees.{number, build, print, treeOf}
 use Rattle.arches.proofs.Paths.{Walk}
 
+-- "The number is: the D-count (if the family has `D`), plus the products for i below I, plus the first part's number, plus the count for I
+-- times the inside's number" (`number` of `arches/specs/Trees`)
 pub record IsEdge (d : Bool) (v n r : ℕ) (s : List ℕ) : Type 0 where
   pub walk : Walk d v 0 0 s n
   pub numbered : r ≡ number d v (treeOf d v s)
 
+-- "5 Not an edge: the bytes aren't a valid edge of the job"
 abbrev pub Numbered : Bool → Bool → ℕ → ℕ → ℕ → List ℕ → Type 0
 Numbered true d v n r s = IsEdge d v n r s
 Numbered false d v n r s = Walk d v 0 0 s n → ⊥
 
+-- "An accepted write fills the front of the output, reports its length and touches nothing behind it."
 pub record Written (d : Bool) (v n r : ℕ) (old new : List ℕ) (k : ℕ) : Type 0 where
   pub shown : new ≡ print d v (build d v n n r) ++ drop k old
   pub long : length (print d v (build d v n n r)) ≡ k

@@ -1,4 +1,6 @@
 -- What the readers from the first step say of the bytes of s from the place `from` on. The family has `D`, and an arch spans v + 1.
+-- "Where it doesn't end in `D`, a path ends in an arch, and an arch holds a path. The first part and the inside are themselves paths of the
+-- same family."
 --
 --   Ends, Stops            s is over, or goes on with `N` or with no step
 --   Begun v room s from next size r    the bytes from `from` up to next are a path with this number and this size, at most room

@@ -16,10 +16,13 @@ use Rattle.rules.specs.Refusals.{Answer, check}
 use Rattle.rules.specs.Refusals.Refusal.{over}
 use Rattle.rules.specs.Refusals.Answer.{accepted}
 
+-- "Family 1 (000, eq. 2): L(n,m) = L(n,m-1) + L(n-1,m); 1 if n or m is 0." "Family 3 (000, eq. 6): D(n,m) = D(n,m-1) + D(n-1,m) +
+-- D(n-1,m-1); 1 if n or m is 0."
 abbrev pub ends : Bool → ℕ → ℕ → ℕ
 ends false n m = L n m
 ends true n m = Dl n m
 
+-- "The answer is a count or a refusal number, never both."; "4 Over: the count exceeds 18446744073709551615"
 abbrev pub cornerAnswer : Bool → ℕ → ℕ → Answer ℕ
 cornerAnswer d n m = check (leb (ends d n m) most) over (accepted (ends d n m))
 

@@ -19,6 +19,7 @@ use Rattle.grid.specs.declared.plan.Plan.{Plan}
 abbrev pub cornerOf : Job → Corner
 cornerOf j = record { n = j .n; m = j .m - 128; diagonal = eqb (j .family) 3 }
 
+-- "1 North-East", "3 Delannoy": "n, m 0 to 64", the end "(n,m)", "free"
 abbrev pub cornerJob : Corner → rules.Job
 cornerJob c = pick (c .diagonal) (delannoy (c .n) (c .m)) (north-east (c .n) (c .m))
 
@@ -36,6 +37,7 @@ cornerPlan c = record {
   ey = pick (ltb (c .n) (c .m)) (c .n) (c .m);
 }
 
+-- "`N` (0,1), `E` (1,0)", "`D` (1,1)", each (a,b) sheared to (a + b, b), and mirrored to (a + b, a) where n is below m
 abbrev pub cornerRight : Corner → List ℕ
 cornerRight c = 1 ∷ 1 ∷ pick (c .diagonal) 2 100 ∷ 100 ∷ 100 ∷ 100 ∷ 100 ∷ 100 ∷ []
 
