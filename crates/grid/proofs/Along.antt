@@ -4,7 +4,6 @@
 --   corner-next, corner-first  a cell from the one before it; the first cell of a row
 --   corner-under               there are no walks to a row beyond the column
 --   corner-most                no count before the end is above the end's
---   two-cornered, three-cornered    `is_corner`
 --   rem-one, place-one         a place is one row's and one column's
 --   rows-none, rows-more, rows-next, rows-got    the rows so far: none yet, one cell more, a row more, and all of them
 --   below-is, across-is, first-is, first-one     what is read from the row below
@@ -21,17 +20,17 @@ use native.Mathlib.Omega.{arith}
 use lib.Dec.{T, eqb}
 use lib.ListN.{length, getD, set, length-set}
 use lib.Seq.{getD-set-same, getD-set-other}
-use borrow.Author.Tests.{eq-eqb, ne-eqb, eqb-true}
+use borrow.Author.Tests.{eq-eqb, ne-eqb}
 use Rattle.howmany.specs.Choose.{pick}
 use Rattle.howmany.specs.Sum.{sum}
 use Rattle.grid.specs.declared.Answer.the-variants.{Over}
 use Rattle.grid.specs.Form.{W, via}
 use Rattle.grid.specs.Cells.{strideOf, place}
 use Rattle.grid.specs.declared.plan.Plan as plans
-use Rattle.grid.specs.Table.{Slopes, Ends, Table}
-use Rattle.grid.specs.Plans.{strideFor, PreparedFor, walksFor}
+use Rattle.grid.specs.Table.{Slopes, Rises, Corner, Ends, Table}
+use Rattle.grid.specs.Plans.{strideFor, CorneredFor, PreparedFor, walksFor}
 use Rattle.grid.specs.Filling.{Filled}
-use Rattle.grid.specs.Rows.{Rises, Corner, Cornered, Done, Rows, RowsFor, Rowing, Risen}
+use Rattle.grid.specs.Rows.{Done, Rows, RowsFor, Rowing, Risen}
 use Rattle.grid.proofs.Walls.{wall-level}
 use Rattle.grid.proofs.Laws.{via-left, via-under, via-in, W-start, W-step, cap-ge}
 use Rattle.grid.proofs.Counts.{pos-of, W-high}
@@ -120,39 +119,6 @@ module _ (k f : ℕ) (sa sc : List ℕ) where
         let e : u + d + r ≡ ex = omega arith in
         let g : y + d ≡ ey = omega arith in
         le-trans (up-most d u y) (le-trans (right-most r (u + d) (y + d)) (rw (e, g) (omega arith)))
-
--- ---- `is_corner`
-
-module _ {p : plans.Plan} {sa sc : List ℕ} (slope : p .hi ≡ 6) (deep : p .m ≡ 1) (level : p .f ≡ 0) (wide : p .ey ≤ p .ex) (one : getD sa 0 0 ≡ 1) (two : getD sa 1 0 ≡ 1) (rise : Rises (getD sc 0 0) (getD sc 1 0)) where
-  pub two-cornered : p .k ≡ 2 → Cornered p sa sc
-  two-cornered e = record {
-    corner = record {
-      level = level;
-      many = rw (ne-eqb (p .k) 3 (λ q. omega arith)) e;
-      one = one;
-      two = two;
-      rise = rise;
-      third = λ q. absurd (omega (arith, eqb-true (p .k) 3 q));
-    };
-    slope = slope;
-    deep = deep;
-    wide = wide;
-  }
-
-  pub three-cornered : p .k ≡ 3 → getD sa 2 0 ≡ 2 → getD sc 2 0 ≡ 1 → Cornered p sa sc
-  three-cornered e a c = record {
-    corner = record {
-      level = level;
-      many = rw (eq-eqb (p .k) 3 e) e;
-      one = one;
-      two = two;
-      rise = rise;
-      third = λ q. (a, c);
-    };
-    slope = slope;
-    deep = deep;
-    wide = wide;
-  }
 
 -- ---- places
 
@@ -317,7 +283,7 @@ module _ {k f : ℕ} {sa sc : List ℕ} {hi m ex ey : ℕ} {val : List ℕ} (pl 
 -- ---- the loop along row y: cell is where the one in column y + i stands, and sum its count
 pub record Along (p : plans.Plan) (sa sc off : List ℕ) (y : ℕ) (val : List ℕ) (cell sum i : ℕ) : Type 0 where
   pub ready : PreparedFor p sa sc off (length val)
-  pub steps : Cornered p sa sc
+  pub steps : CorneredFor p sa sc
   pub inside : y ≤ p .ey
   pub rows : RowsFor p sa sc val y (i + 1)
   pub le : i ≤ p .ex - p .ey
@@ -437,7 +403,7 @@ module _ {p : plans.Plan} {sa sc off : List ℕ} {y : ℕ} {val : List ℕ} {cel
 -- ---- the loop over the rows
 
 module _ {p : plans.Plan} {sa sc : List ℕ} {val : List ℕ} where
-  pub risen-of : {off : List ℕ} {y : ℕ} → PreparedFor p sa sc off (length val) → Cornered p sa sc → RowsFor p sa sc val y 0 → y ≡ p .ey + 1 → Risen p sa sc val true
+  pub risen-of : {off : List ℕ} {y : ℕ} → PreparedFor p sa sc off (length val) → CorneredFor p sa sc → RowsFor p sa sc val y 0 → y ≡ p .ey + 1 → Risen p sa sc val true
   risen-of r c rs e = record {
     got = λ q. record { table = rows-got (r .slopes) (c .slope) _ (c .corner) (c .wide) (rw e at rs); start = omega arith; end = omega arith };
     over = λ q. absurd (subst T q tt);

@@ -40,7 +40,7 @@ use Rattle.lines.specs.Lines.{endsFrom, lined, LinedAs}
 use Rattle.lines.proofs.Lining.{Lining, lining-next, lined-refused}
 use Rattle.grid.specs.Form.{W}
 use Rattle.grid.specs.Edges as edges
-use Rattle.grid.specs.Shapes.{Grids, Fits, ShapedFor}
+use Rattle.grid.specs.Shapes.{Grids, isCorner, Fits, ShapedFor}
 use Rattle.grid.specs.Spelling.{Front, edgesFor}
 use Rattle.grid.specs.Calls.{forGrid, edgesOf, BuildsOf, BuildsAs}
 use Rattle.grid.specs.Plans.{PlanOf, walksFor, ListsFor, BuildsFor}
@@ -112,15 +112,15 @@ same-edges g h c [] e l = refl
 same-edges g h c (n ∷ ns) e l =
     ap (λ (z : List ℕ). z ∷ map g ns) (e n (l 0 (omega arith))) ∙ ap (λ (z : List (List ℕ)). h n ∷ z) (same-edges g h c ns e (λ i b. l (suc i) (omega arith)))
 
-module _ (J : rules.Job) (s : Shape) (r : InRange J) (f : Fits J s) {p : Plan} (po : PlanOf s p) (g : Grids J) where
+module _ (J : rules.Job) (s : Shape) (r : InRange J) (f : Fits J s) {corner : Bool} {p : Plan} (po : PlanOf corner s p) (c : isCorner J ≡ corner) (g : Grids J) where
   plan-edges : (ns : List ℕ) → edgesFor (p .corner) (p .k) (p .f) (s .sa) (s .sc) (p .ex) (p .ey) ns ≡ edgesOf J ns
-  plan-edges ns = rw (po .corner-is, po .k-is, po .f-is, po .ex-is, po .ey-is, same) (go (allBelow (countOf J) ns) refl)
+  plan-edges ns = rw (po .corner-is, ← c, po .k-is, po .f-is, po .ex-is, po .ey-is, same) (go (allBelow (countOf J) ns) refl)
     where
       same : W (s .k) (s .f) (s .sa) (s .sc) (s .ex) (s .ey) ≡ countOf J
       same = shape-count J s r f
 
       by : ℕ → List ℕ
-      by = edges.edgeOf (s .corner) (s .k) (s .f) (s .sa) (s .sc) (s .ex) (s .ey)
+      by = edges.edgeOf (isCorner J) (s .k) (s .f) (s .sa) (s .sc) (s .ex) (s .ey)
 
       go : (t : Bool) → allBelow (countOf J) ns ≡ t
           → check (leb (countOf J) most) over (check t beyond (accepted (map by ns))) ≡ check (leb (countOf J) most) over (check t beyond (accepted (map (edgeOf J) ns)))

@@ -2,12 +2,14 @@
 --
 --   corner-form                     the steps and the end are a form
 --   cornerShape c                   the steps and the end as a shape, which shows the job's own grid, mirrored where n is below m
+--   cornered                        the steps are those of a corner, and lead to the end
 --   corner-counts                   a count by rows is the job's
 --   corner-over                     the count where the end is above height 33
 --   corner-planned                  the plan is that of the steps
 --   corner-number, corner-builds    what the plan's table says is the job's
 --   corner-level, corner-answer     what holds of a held job of family 1 or 3
-use mathlib.Core.Path.{_≡_, refl, ap, _∙_}
+use mathlib.Core.Path.{_≡_, refl, sym, ap, _∙_, subst}
+use mathlib.Core.Logic.{inl, inr}
 use mathlib.Core.Bool.{Bool, true, false, not, _&&_}
 use mathlib.Core.List.{List, [], _∷_}
 use Prim.Native.Nat.{ℕ, _+_, _*_, _-_, _^_, _≤_, _<_}
@@ -37,8 +39,9 @@ use Rattle.job.proofs.Standing.{Kept}
 use Rattle.corners.specs.Corners.{ends, cornerAnswer}
 use Rattle.corners.proofs.Ends.{ends-over}
 use Rattle.grid.specs.Form.{Form, spot}
-use Rattle.grid.specs.Shapes.{Grids, Sound, Fits}
+use Rattle.grid.specs.Shapes.{Grids, Sound, isCorner, Fits}
 use Rattle.grid.specs.Shapes.Shows.{slid, mirrored}
+use Rattle.grid.specs.Table.{Rises, Cornered}
 use Rattle.grid.specs.Plans.{Planned, PlanOf, numberFor, BuildsFor}
 use Rattle.grid.specs.Calls.{CountsOf, NumbersOf, BuildsOf}
 use Rattle.grid.specs.Corners.{cornerOf, cornerJob, cornerPlan, cornerRight, cornerUp, Within}
@@ -108,7 +111,6 @@ corner-form k sa sc ex ey la lc some most t lx ly = record {
 abbrev shapeBy : Bool → Bool → ℕ → ℕ → Shape
 shapeBy t d n m = record {
   state = 0;
-  corner = true;
   k = pick d 3 2;
   f = 0;
   top = 1;
@@ -126,7 +128,6 @@ cornerShape c = shapeBy (ltb (c .n) (c .m)) (c .diagonal) (c .n) (c .m)
 
 fits : (t d : Bool) (n m : ℕ) → Fits (jobBy d n m) (shapeBy t d n m)
 fits true true n m = record {
-  letters = refl;
   end = spot (n + m) m;
   sits = record { across = refl; up = refl };
   shows = mirrored 1 (record {
@@ -137,7 +138,6 @@ fits true true n m = record {
   }) (refl, omega arith);
 }
 fits true false n m = record {
-  letters = refl;
   end = spot (n + m) m;
   sits = record { across = refl; up = refl };
   shows = mirrored 1 (record {
@@ -148,7 +148,6 @@ fits true false n m = record {
   }) (refl, omega arith);
 }
 fits false true n m = record {
-  letters = refl;
   end = spot (n + m) m;
   sits = record { across = refl; up = refl };
   shows = slid 0 (record {
@@ -159,7 +158,6 @@ fits false true n m = record {
   }) (refl, omega arith);
 }
 fits false false n m = record {
-  letters = refl;
   end = spot (n + m) m;
   sits = record { across = refl; up = refl };
   shows = slid 0 (record {
@@ -186,6 +184,31 @@ many : (d : Bool) → (1 ≤ pick d 3 2) × (pick d 3 2 ≤ 4)
 many true = (omega arith, omega arith)
 many false = (omega arith, omega arith)
 
+-- the steps are those of a corner, and lead to the end
+cornered : (t d : Bool) (n m : ℕ) → Cornered (pick d 3 2) 0 (shapeBy t d n m .sa) (shapeBy t d n m .sc) 6 1 (n + m) (pick t n m)
+cornered t d n m = record {
+  corner = record { level = refl; many = many-is d; one = refl; two = refl; rise = rise-is t; third = third-is d };
+  slope = refl;
+  deep = refl;
+  wide = reach t;
+}
+  where
+    many-is : (d : Bool) → _≡_ {A = ℕ} (pick d 3 2) (pick (eqb (pick d 3 2) 3) 3 2)
+    many-is true = refl
+    many-is false = refl
+
+    rise-is : (t : Bool) → Rises (bit (not t)) (bit t)
+    rise-is true = inr (refl, refl)
+    rise-is false = inl (refl, refl)
+
+    third-is : (d : Bool) → eqb (pick d 3 2) 3 ≡ true → (_≡_ {A = ℕ} (pick d 2 100) 2) × (bit d ≡ 1)
+    third-is true e = (refl, refl)
+    third-is false e = absurd (subst T (sym e) tt)
+
+    reach : (t : Bool) → pick t n m ≤ n + m
+    reach true = omega arith
+    reach false = omega arith
+
 -- ---- the plan
 
 module _ (c : Corner) where
@@ -205,6 +228,13 @@ module _ (c : Corner) where
       go : (d : Bool) → Grids (jobBy d (c .n) (c .m))
       go true = tt
       go false = tt
+
+  letters : isCorner (cornerJob c) ≡ true
+  letters = go (c .diagonal)
+    where
+      go : (d : Bool) → isCorner (jobBy d (c .n) (c .m)) ≡ true
+      go true = refl
+      go false = refl
 
   ends-is : ends (c .diagonal) (c .n) (c .m) ≡ countOf (cornerJob c)
   unfolding countOf
@@ -236,9 +266,10 @@ module _ (c : Corner) where
       steep = record { le = omega arith; all = λ i h q. omega (arith, form .low i h, form-pos form i h) };
       deep = record { le = omega arith; all = λ i h q. form .low i h };
       fewer = record { gone = λ e i h q. omega (arith, form .ex-le, form .away i (omega (arith, many (c .diagonal))) q) };
+      cornered = λ e. cornered (ltb (c .n) (c .m)) (c .diagonal) (c .n) (c .m);
     }
 
-    plan-of : PlanOf (cornerShape c) (cornerPlan c)
+    plan-of : PlanOf true (cornerShape c) (cornerPlan c)
     plan-of = record { planned = planned; corner-is = refl; k-is = refl; f-is = refl; ex-is = refl; ey-is = refl }
 
 module _ (c : Corner) {p : Plan} (ep : p ≡ cornerPlan c) where
@@ -253,10 +284,10 @@ module _ (c : Corner) {p : Plan} (ep : p ≡ cornerPlan c) where
     corner-planned = rw (ep, ea, eu) (planned c w (rw ep at l))
 
     pub corner-number : (e : List ℕ) (x : Numbered) → numberSays x ≡ reply (numberFor p sa sc e) → NumbersOf (cornerJob c) e x
-    corner-number e x h = plan-number (cornerJob c) (cornerShape c) (range c) shown (plan-of c w (rw ep at l)) (grids c) e x (rw (ep, ea, eu) at h)
+    corner-number e x h = plan-number (cornerJob c) (cornerShape c) (range c) shown (plan-of c w (rw ep at l)) (letters c) (grids c) e x (rw (ep, ea, eu) at h)
 
     pub corner-builds : (ns steps ends : List ℕ) (x : Built) (t u : List ℕ) → BuildsFor p sa sc ns steps ends t u x → BuildsOf (cornerJob c) ns steps ends t u x
-    corner-builds ns steps ends x t u h = plan-builds (cornerJob c) (cornerShape c) (range c) shown (plan-of c w (rw ep at l)) (grids c) ns steps ends x t u (rw (ep, ea, eu) at h)
+    corner-builds ns steps ends x t u h = plan-builds (cornerJob c) (cornerShape c) (range c) shown (plan-of c w (rw ep at l)) (letters c) (grids c) ns steps ends x t u (rw (ep, ea, eu) at h)
 
 -- ---- the held job
 

@@ -1,6 +1,6 @@
 -- The count of a job, from its shape and its table. Assumes nothing.
 --
---   Working J s                                the shape has steps and an end to be worked out
+--   Working J s                                the shape has steps and an end to be worked out, and the job's letters are digits
 --   state-none, state-empty, state-working     what a shape's state says
 --   counts-over, counts-value, counts-told     the reply for each way to a count
 --   number-over, number-none                   the reply for each way to a number that asks no table
@@ -37,7 +37,7 @@ use Rattle.job.specs.declared.Numbered.{Numbered}
 use Rattle.job.specs.declared.Numbered.the-variants.{Refused as NumberRefused}
 use Rattle.job.proofs.Standing.{Kept, Told}
 use Rattle.grid.specs.Cells.{capOf}
-use Rattle.grid.specs.Shapes.{Grids, Sound, FormOf, Fits, Shaped, ShapedFor}
+use Rattle.grid.specs.Shapes.{Grids, Sound, isCorner, FormOf, Fits, Shaped, ShapedFor}
 use Rattle.grid.specs.Edges as edges
 use Rattle.grid.specs.Numbering.{tableNumber}
 use Rattle.grid.specs.Shapes.Shaped.{worked, nothing}
@@ -52,20 +52,21 @@ use Rattle.grid.proofs.Worded.{shape-edge, shape-number}
 use Rattle.grid.proofs.Grounds.{grids-of, stands-range, shape-count}
 
 pub record Working (J : rules.Job) (s : Shape) : Type 0 where
+  pub letters : isCorner J ≡ false
   pub form : FormOf s
   pub fits : Fits J s
 
 module _ (J : rules.Job) (s : Shape) where
   pub state-none : Shaped J s → s .state ≡ 1 → countOf J ≡ 0
-  state-none (worked e f g) h = absurd (omega arith)
+  state-none (worked e c f g) h = absurd (omega arith)
   state-none (nothing e z n) h = z
 
   pub state-empty : Shaped J s → s .state ≡ 1 → (e : List ℕ) → Valid J e → ⊥
-  state-empty (worked e f g) h = absurd (omega arith)
+  state-empty (worked e c f g) h = absurd (omega arith)
   state-empty (nothing e z n) h = n
 
   pub state-working : Shaped J s → (s .state ≡ 1 → ⊥) → Working J s
-  state-working (worked e f g) a = record { form = f; fits = g }
+  state-working (worked e c f g) a = record { letters = c; form = f; fits = g }
   state-working (nothing e z n) a = absurd (a e)
 
 -- ---- the reply to a count
@@ -121,18 +122,18 @@ pub number-none : (J : rules.Job) (e : List ℕ) → countOf J ≡ 0 → (Valid 
 unfolding refusalNumber Valid
 number-none J e z n = rw (le-leb (countOf J) most (omega arith), is-false (walks J origin e) n) refl
 
-module _ (J : rules.Job) (s : Shape) (r : InRange J) (f : Fits J s) {p : Plan} (po : PlanOf s p) where
+module _ (J : rules.Job) (s : Shape) (r : InRange J) (f : Fits J s) {corner : Bool} {p : Plan} (po : PlanOf corner s p) where
   pub plan-count : walksFor p (s .sa) (s .sc) ≡ countOf J
   plan-count = rw (po .k-is, po .f-is, po .ex-is, po .ey-is) (shape-count J s r f)
 
-  -- the table's answer is the job's
-  pub plan-number : Grids J → (e : List ℕ) (x : Numbered) → numberSays x ≡ reply (numberFor p (s .sa) (s .sc) e) → NumbersOf J e x
+  -- the table's answer is the job's, where the plan has the job's letters
+  pub plan-number : isCorner J ≡ corner → Grids J → (e : List ℕ) (x : Numbered) → numberSays x ≡ reply (numberFor p (s .sa) (s .sc) e) → NumbersOf J e x
   unfolding tableNumber
-  plan-number g e x h =
-      h ∙ rw (po .corner-is, po .k-is, po .f-is, po .ex-is, po .ey-is, shape-count J s r f, shape-edge J s g r f e) (ap reply (go (walks J origin e) refl))
+  plan-number c g e x h =
+      h ∙ rw (po .corner-is, ← c, po .k-is, po .f-is, po .ex-is, po .ey-is, shape-count J s r f, shape-edge J s g r f e) (ap reply (go (walks J origin e) refl))
     where
       n : ℕ
-      n = edges.numberOf (s .corner) (s .k) (s .f) (s .sa) (s .sc) (s .ex) (s .ey) e
+      n = edges.numberOf (isCorner J) (s .k) (s .f) (s .sa) (s .sc) (s .ex) (s .ey) e
 
       go : (t : Bool) → walks J origin e ≡ t
           → check (leb (countOf J) most) over (check t not-an-edge (accepted n)) ≡ check (leb (countOf J) most) over (check t not-an-edge (accepted (numberOf J e)))

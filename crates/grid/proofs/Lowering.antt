@@ -90,7 +90,7 @@ heights-at w e = rw e at w
 
 module _ (s : Shape) (d f ey : ℕ) (up : List ℕ) where
   abbrev seen : Shape
-  seen = record { state = s .state; corner = s .corner; k = s .k; f = f; top = s .top; ex = s .ex; ey = ey; sa = s .sa; sc = up }
+  seen = record { state = s .state; k = s .k; f = f; top = s .top; ex = s .ex; ey = ey; sa = s .sa; sc = up }
 
   -- slid heights are no more than before, 3a + 3 at most; a mirrored one is 6a - c at most, and c is 3a - 3 at least
   there : (t : Bool) → View t d s → Heights t d (s .sa) (s .sc) up (s .k) → (i : ℕ) → i < s .k → getD up i 0 ≤ s .top
@@ -138,7 +138,7 @@ module _ (s : Shape) (d f ey : ℕ) (up : List ℕ) where
   shows true w h u = mirrored d (record { many = refl; right = λ i l. refl; up = u .each; wall = w }) (refl, h)
 
   pub view-lowered : (t : Bool) → View t d s → (f ≤ 22) × Turned t (s .f) d f → Height t (s .ey) (d * s .ex) ey → Heights t d (s .sa) (s .sc) up (s .k) → Lowered s seen
-  view-lowered t v w h u = reached (v .gentle .state-is) refl (form t v (w .0) h u) (shows t (w .1) h u)
+  view-lowered t v w h u = reached (v .gentle .state-is) (form t v (w .0) h u) (shows t (w .1) h u)
 
 -- ---- two grids with the same steps
 

@@ -190,8 +190,8 @@ module _ (j : Job) (fenced : Bool) (m : ℤ) (pairs : List Pair) (d : Directed j
     }
 
     lowered-shaped : (r : Shape) → s .state ≡ 0 → Lowered s r → Shaped J r
-    lowered-shaped r q (reached z c form v) =
-        worked z form (record { letters = c ∙ w .corner-is; end = endAt s; sits = sits (laid-above j f s w q); shows = shows-same (gridOf J) (stepsAt s) own (endAt s) r v })
+    lowered-shaped r q (reached z form v) =
+        worked z refl form (record { end = endAt s; sits = sits (laid-above j f s w q); shows = shows-same (gridOf J) (stepsAt s) own (endAt s) r v })
     lowered-shaped r q (unreached z o) = beyond-shaped r (endAt s) z (sits (laid-above j f s w q)) (beyond-same (gridOf J) (stepsAt s) own (endAt s) o)
 
   pub directed-shaped : (r : Shape) (f : ℕ) → f ≡ pick fenced 3 0 → Chosen j f r → Shaped J r

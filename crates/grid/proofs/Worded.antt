@@ -218,33 +218,31 @@ module _ (J : rules.Job) (s : Shape) (g : Grids J) (r : InRange J) (f : Fits J s
   same-valid : (u : List ℕ) → valid (grid H) u ends-there ≡ valid (grid G) u ends
   same-valid u = valid-carried (grid H) (grid G) (w .At) (w .carries) u ends-there ends (w .led)
 
-  pub shape-edge : (e : List ℕ) → edges.isEdge (s .corner) (s .k) (s .f) (s .sa) (s .sc) (s .ex) (s .ey) e ≡ walks J origin e
+  pub shape-edge : (e : List ℕ) → edges.isEdge (isCorner J) (s .k) (s .f) (s .sa) (s .sc) (s .ex) (s .ey) e ≡ walks J origin e
   unfolding edges.isEdge
-  shape-edge e = rw (f .letters) (same-valid (reverse (map (placeOf (isCorner J)) e)) ∙ word-valid e ∙ sym (walks-by J r (f .end) (f .sits) e))
+  shape-edge e = same-valid (reverse (map (placeOf (isCorner J)) e)) ∙ word-valid e ∙ sym (walks-by J r (f .end) (f .sits) e)
 
-  pub shape-number : (e : List ℕ) → T (walks J origin e) → edges.numberOf (s .corner) (s .k) (s .f) (s .sa) (s .sc) (s .ex) (s .ey) e ≡ numbers.numberOf J e
+  pub shape-number : (e : List ℕ) → T (walks J origin e) → edges.numberOf (isCorner J) (s .k) (s .f) (s .sa) (s .sc) (s .ex) (s .ey) e ≡ numbers.numberOf J e
   unfolding edges.numberOf
   shape-number e t =
       let v : T (valid (grid G) (reverse (map (placeOf (isCorner J)) e)) ends) = subst T (walks-by J r (f .end) (f .sits) e ∙ sym (word-valid e)) t in
-      rw (f .letters)
-      (rank-carried (grid H) (grid G) (w .At) (w .carries) shape-lawful job-lawful (reverse (map (placeOf (isCorner J)) e)) ends-there ends (w .led)
+      rank-carried (grid H) (grid G) (w .At) (w .carries) shape-lawful job-lawful (reverse (map (placeOf (isCorner J)) e)) ends-there ends (w .led)
       (subst T (sym (same-valid (reverse (map (placeOf (isCorner J)) e)))) v)
       ∙ ap (λ (x : List ℕ). rank (grid G) x ends) (map-reverse (placeOf (isCorner J)) e)
       ∙ rank-map (grid G) (placeOf (isCorner J)) (λ b. place b (stepsOf J)) (places J g r) job-lawful (reverse e) ends
       (subst (λ (x : List ℕ). T (valid (grid G) x ends)) (map-reverse (placeOf (isCorner J)) e) v)
       ∙ sym (ap (λ (x : List ℕ). rank (grid G) x ends) (map-reverse (λ b. place b (stepsOf J)) e))
-      ∙ sym (number-by J r (f .end) (f .sits) e t))
+      ∙ sym (number-by J r (f .end) (f .sits) e t)
 
-  pub shape-spells : (n : ℕ) → n < countOf J → edges.edgeOf (s .corner) (s .k) (s .f) (s .sa) (s .sc) (s .ex) (s .ey) n ≡ numbers.edgeOf J n
+  pub shape-spells : (n : ℕ) → n < countOf J → edges.edgeOf (isCorner J) (s .k) (s .f) (s .sa) (s .sc) (s .ex) (s .ey) n ≡ numbers.edgeOf J n
   unfolding edges.edgeOf paths
   shape-spells n l =
       let h : n < paths G (f .end) = rw (end-count J r (f .end) (f .sits)) at l in
       let c : n < count (grid H) ends-there = rw (count-carried (grid H) (grid G) (w .At) (w .carries) ends-there ends (w .led)) h in
       let b = unrank-built (grid G) job-lawful ends n h in
-      rw (f .letters)
-      (ap (λ (x : List ℕ). map (glyphOf (isCorner J)) (reverse x))
+      ap (λ (x : List ℕ). map (glyphOf (isCorner J)) (reverse x))
       (unrank-carried (grid H) (grid G) (w .At) (w .carries) shape-lawful job-lawful ends-there ends (w .led) n c)
       ∙ sym (map-reverse (glyphOf (isCorner J)) (unrank (grid G) ends n))
       ∙ ap reverse (map-letters (grid G) job-lawful (glyphOf (isCorner J)) (λ i. at (stepsOf J) i .letter) (glyphs J g r) (unrank (grid G) ends n) ends (b .is))
       ∙ map-reverse (λ i. at (stepsOf J) i .letter) (unrank (grid G) ends n)
-      ∙ sym (edge-by J r (f .end) (f .sits) n h))
+      ∙ sym (edge-by J r (f .end) (f .sits) n h)

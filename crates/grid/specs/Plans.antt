@@ -3,8 +3,9 @@
 --   strideFor p, cellsFor p           how many cells a column has, and all of the table
 --   SizesFor p                        bounds of the plan's numbers
 --   FormFor p sa sc                   the steps sa, sc with the plan's end are a form
---   Planned sa sc p                   the steps sa, sc have the form, the steepest and the deepest step that the plan p says, and are few if it says so
---   PlanOf s p                        the plan p is the shape s's
+--   CorneredFor p sa sc               the steps sa, sc are a corner's, and can reach the plan's end
+--   Planned sa sc p                   the steps sa, sc have the form, the steepest and the deepest step that the plan p says, and are few, or a corner's, if it says so
+--   PlanOf corner s p                 the plan p is that of the shape s, and says corner: whether its edges are written N E D
 --   PreparedFor, TableFor, FlaggedFor, SmallFor    Prepared, Table, Flagged and Small by a plan
 --   SpansFor p starts stops           where the heights that matter of the plan's columns begin, and end
 --   walksFor p sa sc                  how many walks lead to the end
@@ -12,7 +13,7 @@
 --   edgeFor p sa sc r                 the edge of the number r; ListsFor, BuildsFor: those of the numbers ns written, and those or refusal 4 or 6
 --   RoomFor ns steps ends             there is room for the edges of the numbers ns
 use mathlib.Core.Path.{_≡_}
-use mathlib.Core.Bool.{Bool}
+use mathlib.Core.Bool.{Bool, true}
 use mathlib.Core.List.{List}
 use Prim.Native.Nat.{ℕ, _+_, _*_}
 use lib.ListN.{length}
@@ -26,7 +27,7 @@ use Rattle.grid.specs.declared.plan.Plan.{Plan}
 use Rattle.grid.specs.declared.shape.Shape.{Shape}
 use Rattle.grid.specs.Form.{Form, W}
 use Rattle.grid.specs.Cells.{capOf, strideOf}
-use Rattle.grid.specs.Table.{Steepest, Deepest, Few, Sizes, Prepared, Spans, Table, Flagged, Small}
+use Rattle.grid.specs.Table.{Steepest, Deepest, Few, Cornered, Sizes, Prepared, Spans, Table, Flagged, Small}
 use Rattle.grid.specs.Edges.{isEdge, numberOf, edgeOf}
 use Rattle.grid.specs.Numbering.{tableNumber}
 use Rattle.grid.specs.Spelling.{edgesBy, edgesFor}
@@ -43,22 +44,26 @@ SizesFor p = Sizes (p .f) (p .hi) (p .m) (p .ex) (p .ey)
 abbrev pub FormFor : Plan → List ℕ → List ℕ → Type 0
 FormFor p sa sc = Form (p .k) (p .f) sa sc (p .top) (p .ex) (p .ey)
 
+abbrev pub CorneredFor : Plan → List ℕ → List ℕ → Type 0
+CorneredFor p sa sc = Cornered (p .k) (p .f) sa sc (p .hi) (p .m) (p .ex) (p .ey)
+
 pub record Planned (sa sc : List ℕ) (p : Plan) : Type 0 where
   pub form : FormFor p sa sc
   pub steep : Steepest sa sc (p .ex) (p .hi) 8
   pub deep : Deepest sa sc (p .top) (p .ex) (p .m) 8
   pub fewer : Few (p .few) sa (p .ex)
+  pub cornered : p .corner ≡ true → CorneredFor p sa sc
 
-pub record PlanOf (s : Shape) (p : Plan) : Type 0 where
+pub record PlanOf (corner : Bool) (s : Shape) (p : Plan) : Type 0 where
   pub planned : Planned (s .sa) (s .sc) p
-  pub corner-is : p .corner ≡ s .corner
+  pub corner-is : p .corner ≡ corner
   pub k-is : p .k ≡ s .k
   pub f-is : p .f ≡ s .f
   pub ex-is : p .ex ≡ s .ex
   pub ey-is : p .ey ≡ s .ey
 
 abbrev pub PreparedFor : Plan → List ℕ → List ℕ → List ℕ → ℕ → Type 0
-PreparedFor p sa sc off size = Prepared (p .few) (p .k) (p .f) sa sc off (p .hi) (p .m) (p .ex) (p .ey) size
+PreparedFor p sa sc off size = Prepared (p .corner) (p .few) (p .k) (p .f) sa sc off (p .hi) (p .m) (p .ex) (p .ey) size
 
 abbrev pub TableFor : Plan → List ℕ → List ℕ → List ℕ → ℕ → Type 0
 TableFor p sa sc val x = Table (p .k) (p .f) sa sc (p .hi) (p .m) (p .ex) (p .ey) val x

@@ -7,8 +7,8 @@
 --   stepsAt s, endAt s  the steps and the end of the shape s
 --   FormOf s            the shape s is one that the table can be filled for
 --   Shows G q s         the shape s shows the grid G with the end q: slid down, or mirrored
---   Fits J s            the shape s has the letters of the job, and shows its grid and its end
---   Shaped J s          s says all of the job: its steps and end, or that nothing leads to its end
+--   Fits J s            the shape s shows the grid of the job and its end
+--   Shaped J s          s says all of the job: its steps and end, and its letters are digits, or that nothing leads to its end
 --   ShapedFor j s       the same, of the job that j stands for
 --   Ranged j            the ranges of families 6 and 7
 --   Laying, Laid j f s  their own steps so far; their own shape, with each height as in the job's own grid
@@ -81,13 +81,12 @@ abbrev pub FormOf : Shape → Type 0
 FormOf s = Form (s .k) (s .f) (s .sa) (s .sc) (s .top) (s .ex) (s .ey)
 
 pub record Fits (J : rules.Job) (s : Shape) : Type 0 where
-  pub letters : s .corner ≡ isCorner J
   pub end : Spot
   pub sits : Sits J end
   pub shows : Shows (gridOf J) end s
 
 pub data Shaped (J : rules.Job) (s : Shape) : Type 0 where
-  worked : s .state ≡ 0 → FormOf s → Fits J s → Shaped J s
+  worked : s .state ≡ 0 → isCorner J ≡ false → FormOf s → Fits J s → Shaped J s
   nothing : s .state ≡ 1 → countOf J ≡ 0 → ((e : List ℕ) → Valid J e → ⊥) → Shaped J s
 
 -- whatever job the held job j stands for
@@ -115,7 +114,6 @@ pub record Laying (a b sa sc : List ℕ) (i : ℕ) : Type 0 where
 
 pub record Laid (j : Job) (f : ℕ) (s : Shape) : Type 0 where
   pub state-is : s .state ≡ bit (ltb (j .m + 3 * j .n) 128)
-  pub corner-is : s .corner ≡ false
   pub k-is : s .k ≡ j .k
   pub f-is : s .f ≡ f
   pub top-is : s .top ≡ 12
@@ -138,7 +136,7 @@ pub data Beyond (G : Steps) (q : Spot) : Type 0 where
   above : (d : ℕ) → ((i : ℕ) → i < G .k → G .c i ≤ d * G .a i) → d * q .x < q .y → Beyond G q
 
 pub data Lowered (s r : Shape) : Type 0 where
-  reached : r .state ≡ 0 → r .corner ≡ s .corner → FormOf r → Shows (stepsAt s) (endAt s) r → Lowered s r
+  reached : r .state ≡ 0 → FormOf r → Shows (stepsAt s) (endAt s) r → Lowered s r
   unreached : r .state ≡ 1 → Beyond (stepsAt s) (endAt s) → Lowered s r
 
 -- a mirror's slope is no less than the fence's; the end comes to lie no higher than 3 · 32

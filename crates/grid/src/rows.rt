@@ -1,66 +1,16 @@
-// The table of families 1 and 3, and of whatever has their steps, filled row by row: along a row each cell is the one before it and what
-// the row below brings. No count before the end is above the end's, so the first that needs more than 64 bits ends the work.
+// The table of families 1 and 3 filled row by row: along a row each cell is the one before it and what the row below brings. No count
+// before the end is above the end's, so the first that needs more than 64 bits ends the work.
 ghost use mathlib.Core.Path.{_≡_};
-ghost use mathlib.Core.Bool.{true};
 ghost use Prim.Native.Nat.{_-_, _<_};
 ghost use lib.Dec.{eqb};
 ghost use lib.ListN.{length, getD};
 ghost use Rattle.howmany.specs.Choose.{pick};
 ghost use Rattle.grid.specs.Filling.{Begun, Filled};
-ghost use Rattle.grid.specs.Rows.{Rises, Cornered, Rowing, Rowed, Risen};
+ghost use Rattle.grid.specs.Plans.{CorneredFor};
+ghost use Rattle.grid.specs.Rows.{Rowing, Rowed, Risen};
 use crate::Answer;
 use crate::plan::Plan;
 use std::num::wrapping_add_u64;
-
-// Whether one of two steps goes up by one, and the other doesn't.
-fn rises(a: usize, b: usize) -> bool
-    ensures { λ r. ⌜ (r ≡ true → Rises a b) ⌝ }
-{
-    if a == 1 {
-        return b == 0;
-    }
-    if a != 0 {
-        return false;
-    }
-    b == 1
-}
-
-// Whether the steps are those of families 1 and 3, and the end can be reached by them.
-pub(crate) fn is_corner(sa: &[usize; 8], sc: &[usize; 8], p: Plan) -> bool
-    ensures { λ r. ⌜ (r ≡ true → Cornered p (now (sa .entry)) (now (sc .entry))) ⌝ }
-{
-    if p.hi != 6 {
-        return false;
-    }
-    if p.m != 1 {
-        return false;
-    }
-    if p.f != 0 {
-        return false;
-    }
-    if p.ex < p.ey {
-        return false;
-    }
-    if sa[0] != 1 {
-        return false;
-    }
-    if sa[1] != 1 {
-        return false;
-    }
-    if !rises(sc[0], sc[1]) {
-        return false;
-    }
-    if p.k == 2 {
-        return true;
-    }
-    if p.k != 3 {
-        return false;
-    }
-    if sa[2] != 2 {
-        return false;
-    }
-    sc[2] == 1
-}
 
 // The first cell of row y, which stands at `at`: the one before it on the diagonal.
 fn first(val: &[u64], stride: usize, y: usize, at: usize) -> u64
@@ -119,7 +69,7 @@ fn row(
 
 // All rows: whether the count at the end fits 64 bits.
 fn all_rows(val: &mut [u64], sa: &[usize; 8], sc: &[usize; 8], off: &[usize; 8], p: Plan) -> bool
-    requires { ⌜ Begun p (now sa) (now sc) (now off) (now val) × Cornered p (now sa) (now sc) ⌝ }
+    requires { ⌜ Begun p (now sa) (now sc) (now off) (now val) × CorneredFor p (now sa) (now sc) ⌝ }
     ensures { λ r. ⌜ Risen p (now (sa .entry)) (now (sc .entry)) (now (val .exit)) r ⌝ }
 {
     let ey = p.ey;
@@ -141,7 +91,7 @@ pub(crate) fn fill_rows(
     off: &[usize; 8],
     p: Plan,
 ) -> Answer
-    requires { ⌜ Begun p (now sa) (now sc) (now off) (now val) × Cornered p (now sa) (now sc) ⌝ }
+    requires { ⌜ Begun p (now sa) (now sc) (now off) (now val) × CorneredFor p (now sa) (now sc) ⌝ }
     ensures { λ r. ⌜ Filled p (now (sa .entry)) (now (sc .entry)) (now (val .exit)) r ⌝ }
 {
     if !all_rows(val, sa, sc, off, p) {

@@ -13,7 +13,6 @@ use job::Job;
 // What the table is filled for; f is its wall. State 0: steps and an end; 1: nothing leads to the end.
 pub(crate) struct Shape {
     pub state: u8,
-    pub corner: bool,
     pub k: usize,
     pub f: usize,
     pub top: usize,
@@ -51,7 +50,6 @@ fn own_shape(job: Job, f: usize) -> Shape
     if up < 128 {
         return Shape {
             state: 1,
-            corner: false,
             k,
             f,
             top: 12,
@@ -63,7 +61,6 @@ fn own_shape(job: Job, f: usize) -> Shape
     }
     Shape {
         state: 0,
-        corner: false,
         k,
         f,
         top: 12,

@@ -12,7 +12,6 @@ use crate::flags::put;
 use crate::flags::total;
 use crate::plan::Plan;
 use crate::rows::fill_rows;
-use crate::rows::is_corner;
 
 // Column x. Whether the next one can be summed without a test.
 fn step(
@@ -173,7 +172,7 @@ fn fill_columns(
     Answer::Count(v)
 }
 
-// The whole table; the answer is the count at the end.
+// The whole table, of families 1 and 3 row by row; the answer is the count at the end.
 pub(crate) fn fill(
     val: &mut [u64],
     sa: &[usize; 8],
@@ -184,7 +183,7 @@ pub(crate) fn fill(
     requires { ⌜ Begun p (now sa) (now sc) (now off) (now val) ⌝ }
     ensures { λ r. ⌜ Filled p (now (sa .entry)) (now (sc .entry)) (now (val .exit)) r ⌝ }
 {
-    if is_corner(sa, sc, p) {
+    if p.corner {
         return fill_rows(val, sa, sc, off, p);
     }
     fill_columns(val, sa, sc, off, p)

@@ -29,7 +29,9 @@ same-length-2 c = search needs
 
 returns-3 : tie.Need-returns-3
 returns-3 c =
-    λ J r g w. plan-builds J _ r (state-working J _ w (c .before .before .before .before .before .before .before .before .before .before .before .before .if1 .left) .fits) (c .before .before .before .before .before .before .before .before .before .before .before .plan-of .ensures) g _ _ _ _ _ _ (c .before .before .before .before .spell-edges .ensures)
+    λ J r g w.
+    let k = state-working J _ w (c .before .before .before .before .before .before .before .before .before .before .before .before .if1 .left) in
+    plan-builds J _ r (k .fits) (c .before .before .before .before .before .before .before .before .before .before .before .plan-of .ensures) (k .letters) g _ _ _ _ _ _ (c .before .before .before .before .spell-edges .ensures)
 
 pub build-shape-spec : {M : Type 1} → statement M
 build-shape-spec =

@@ -17,7 +17,9 @@ number-requires c κs =
 
 returns-2 : tie.Need-returns-2
 returns-2 c =
-    λ J r g w. plan-number J _ r (state-working J _ w (c .before .before .before .before .before .before .if1 .left) .fits) (c .before .before .before .before .before .plan-of .ensures) g _ (c .number .result) (c .number .ensures)
+    λ J r g w.
+    let k = state-working J _ w (c .before .before .before .before .before .before .if1 .left) in
+    plan-number J _ r (k .fits) (c .before .before .before .before .before .plan-of .ensures) (k .letters) g _ (c .number .result) (c .number .ensures)
 
 pub number-shape-spec : {M : Type 1} → statement M
 number-shape-spec = tie.close (tie.spec returns plan-of-requires number-requires returns-2)

@@ -77,10 +77,10 @@ loop-again : tie.Need-loop-again Inv-loop μ-loop
 loop-again c = (omega arith, laid-more _ _ _ _ (c .before .before .before .loop .i) _ _ (c .before .before .before .loop .inv .1) (omega (arith, c .before .before .before .before .before .before .wide3 .ensures, c .before .before .before .before .before .before .before .before .before .pre .0 .few)) (c .before .wide4 .ensures) (omega (arith, c .before .wide4 .ensures, c .wide5 .ensures)))
 
 returns : tie.Need-returns Inv-loop μ-loop
-returns c = let e : c .before .before .loop .i ≡ c .before .before .before .before .before .before .before .before .args .job .k = omega (arith, c .before .before .before .before .before .wide3 .ensures) in record { state-is = sym (ap bit (lt-ltb (c .before .before .before .before .before .before .before .before .args .job .m + 3 * c .before .before .before .before .before .before .before .before .args .job .n) 128 (omega (arith, c .before .before .before .before .before .before .before .wide .ensures, c .before .before .before .before .before .before .wide2 .ensures)))); corner-is = refl; k-is = c .before .before .before .before .before .wide3 .ensures; f-is = refl; top-is = refl; ex-is = c .before .before .before .before .before .before .before .wide .ensures; ey-is = omega (arith, c .before .before .before .before .before .before .before .wide .ensures, c .before .before .before .before .before .before .wide2 .ensures); steps = rw e at (c .before .before .loop .inv .1) }
+returns c = let e : c .before .before .loop .i ≡ c .before .before .before .before .before .before .before .before .args .job .k = omega (arith, c .before .before .before .before .before .wide3 .ensures) in record { state-is = sym (ap bit (lt-ltb (c .before .before .before .before .before .before .before .before .args .job .m + 3 * c .before .before .before .before .before .before .before .before .args .job .n) 128 (omega (arith, c .before .before .before .before .before .before .before .wide .ensures, c .before .before .before .before .before .before .wide2 .ensures)))); k-is = c .before .before .before .before .before .wide3 .ensures; f-is = refl; top-is = refl; ex-is = c .before .before .before .before .before .before .before .wide .ensures; ey-is = omega (arith, c .before .before .before .before .before .before .before .wide .ensures, c .before .before .before .before .before .before .wide2 .ensures); steps = rw e at (c .before .before .loop .inv .1) }
 
 returns-2 : tie.Need-returns-2 Inv-loop μ-loop
-returns-2 c = let e : c .before .before .loop .i ≡ c .before .before .before .before .before .before .before .before .args .job .k = omega (arith, c .before .before .before .before .before .wide3 .ensures) in record { state-is = sym (ap bit (le-ltb (c .before .before .before .before .before .before .before .before .args .job .m + 3 * c .before .before .before .before .before .before .before .before .args .job .n) 128 (omega (arith, c .before .before .before .before .before .before .before .wide .ensures, c .before .before .before .before .before .before .wide2 .ensures)))); corner-is = refl; k-is = c .before .before .before .before .before .wide3 .ensures; f-is = refl; top-is = refl; ex-is = c .before .before .before .before .before .before .before .wide .ensures; ey-is = omega (arith, c .before .before .before .before .before .before .before .wide .ensures, c .before .before .before .before .before .before .wide2 .ensures); steps = rw e at (c .before .before .loop .inv .1) }
+returns-2 c = let e : c .before .before .loop .i ≡ c .before .before .before .before .before .before .before .before .args .job .k = omega (arith, c .before .before .before .before .before .wide3 .ensures) in record { state-is = sym (ap bit (le-ltb (c .before .before .before .before .before .before .before .before .args .job .m + 3 * c .before .before .before .before .before .before .before .before .args .job .n) 128 (omega (arith, c .before .before .before .before .before .before .before .wide .ensures, c .before .before .before .before .before .before .wide2 .ensures)))); k-is = c .before .before .before .before .before .wide3 .ensures; f-is = refl; top-is = refl; ex-is = c .before .before .before .before .before .before .before .wide .ensures; ey-is = omega (arith, c .before .before .before .before .before .before .before .wide .ensures, c .before .before .before .before .before .before .wide2 .ensures); steps = rw e at (c .before .before .loop .inv .1) }
 
 pub own-shape-spec : {M : Type 1} → statement M
 own-shape-spec =

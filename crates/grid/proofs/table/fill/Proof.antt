@@ -1,12 +1,12 @@
+-- `grid::table::fill` meets its contract: row by row where the plan says that the steps are a corner's, else column by column. Assumes nothing.
 use borrow.Author.Needs.{needs}
 use Rattle.grid.proofs.table.fill.Statement.{statement}
 use Rattle.grid.proofs.table.fill.Tie as tie
 
-is-corner-requires : tie.Need-is-corner-requires
-is-corner-requires c κs = search needs
-
 fill-rows-requires : tie.Need-fill-rows-requires
-fill-rows-requires c κs = (c .before .before .before .before .pre, c .before .before .is-corner .ensures (c .before .if1 .taken))
+fill-rows-requires c κs =
+    let b = c .before .before .before .pre in
+    (b, b .ready .cornered (c .before .if1 .taken))
 
 same-length : tie.Need-same-length
 same-length c = search needs
@@ -27,7 +27,6 @@ pub fill-spec : {M : Type 1} → statement M
 fill-spec =
     tie.close
     (tie.spec
-    is-corner-requires
     fill-rows-requires
     same-length
     returns
