@@ -3,7 +3,7 @@
 --   seek-here, seek-more, seek-end    the loop of `seek`
 --   unr, unr-start, unr-step     the steps of the edge of a number, the last one first
 --   write-turn, write-done       a byte written in front of the others, and all of them
---   Writing, writing-start, written, writing-end    the loop of `spell`
+--   Writing, writing-start, written, write-as, writing-end    the loop of `spell`
 use mathlib.Core.Path.{_≡_, refl, sym, ap, ap₂, _∙_}
 use mathlib.Core.Option.{Option, some}
 use mathlib.Core.List.{List, [], _∷_, _++_, map, reverse, reverse-cons, reverse-reverse, append-nil}
@@ -140,6 +140,11 @@ pub record Written (p : plans.Plan) (sa sc off val : List ℕ) (r : ℕ) (buf₀
   pub far : getD off l 0 ≤ cell
   pub ahead : x - getD sa l 0 < x
   pub next : (v : ℕ) → v ≡ glyphOf (p .corner) l → Writing p sa sc off val r buf₀ (set buf (s - 1) v) (x - getD sa l 0) (y - getD sc l 0) (cell - getD off l 0) rest (s - 1)
+
+-- the same by numbers that the code has at hand
+pub write-as : {p : plans.Plan} {sa sc off val : List ℕ} {r : ℕ} {buf₀ buf : List ℕ} {x y cell s l rest : ℕ} → Written p sa sc off val r buf₀ buf x y cell s l rest → {a o v : ℕ}
+    → a ≡ getD sa l 0 → o ≡ getD off l 0 → v ≡ glyphOf (p .corner) l → Writing p sa sc off val r buf₀ (set buf (s - 1) v) (x - a) (y - getD sc l 0) (cell - o) rest (s - 1)
+write-as t ea eo ev = rw (ea, eo) (t .next _ ev)
 
 module _ {p : plans.Plan} {sa sc off val : List ℕ} {r : ℕ} {buf₀ : List ℕ} where
   pub writing-start : Full p sa sc off val → r < walksFor p sa sc → length buf₀ ≡ 128 → (cell : ℕ) → cell ≡ place (p .m) (p .ey) (p .ex) (p .ey) → Writing p sa sc off val r buf₀ buf₀ (p .ex) (p .ey) cell r 128

@@ -2,10 +2,10 @@
 --
 --   corner-form                     the steps and the end are a form
 --   cornerShape c                   the steps and the end as a shape, which shows the job's own grid, mirrored where n is below m
---   cornered                        the steps are those of a corner, and lead to the end
+--   corner-steps                    the steps are those of a corner, and lead to the end
 --   corner-counts                   a count by rows is the job's
 --   corner-over                     the count where the end is above height 33
---   corner-planned                  the plan is that of the steps
+--   corner-ready, corner-last       all that filling asks, for a size that has room and for the last one
 --   corner-number, corner-builds    what the plan's table says is the job's
 --   corner-level, corner-answer     what holds of a held job of family 1 or 3
 use mathlib.Core.Path.{_≡_, refl, sym, ap, _∙_, subst}
@@ -41,16 +41,16 @@ use Rattle.corners.proofs.Ends.{ends-over}
 use Rattle.grid.specs.Form.{Form, spot}
 use Rattle.grid.specs.Shapes.{Grids, Sound, isCorner, Fits}
 use Rattle.grid.specs.Shapes.Shows.{slid, mirrored}
-use Rattle.grid.specs.Table.{Rises, Cornered}
-use Rattle.grid.specs.Plans.{Planned, PlanOf, numberFor, BuildsFor}
+use Rattle.grid.specs.Table.{Offsets, Rises, Cornered}
+use Rattle.grid.specs.Plans.{strideFor, cellsFor, CorneredFor, Planned, PlanOf}
 use Rattle.grid.specs.Calls.{CountsOf, NumbersOf, BuildsOf}
-use Rattle.grid.specs.Corners.{cornerOf, cornerJob, cornerPlan, cornerRight, cornerUp, Within}
+use Rattle.grid.specs.Corners.{cornerOf, cornerJob, cornerPlan, cornerRight, cornerUp, cornerBack, cornerNumber, CornerReady, CornerBuilds, Within}
 use Rattle.grid.specs.declared.corner.Corner.{Corner}
-use Rattle.grid.specs.declared.plan.Plan.{Plan}
 use Rattle.grid.specs.declared.shape.Shape.{Shape}
 use Rattle.grid.proofs.Walls.{wall-none}
 use Rattle.grid.proofs.Lowering.{product}
 use Rattle.grid.proofs.Prepare.{form-pos}
+use Rattle.grid.proofs.Planning.{prepared-for, prepared-last}
 use Rattle.grid.proofs.Counted.{kept-grids, plan-number}
 use Rattle.grid.proofs.Builds.{plan-builds}
 
@@ -247,6 +247,14 @@ module _ (c : Corner) where
   pub corner-counts : (r : Counted) → countSays r ≡ reply (cornerAnswer (c .diagonal) (c .n) (c .m)) → CountsOf (cornerJob c) r
   corner-counts r e = rw (← ends-is) e
 
+  pub corner-steps : CorneredFor (cornerPlan c) (cornerRight c) (cornerUp c)
+  corner-steps = cornered (ltb (c .n) (c .m)) (c .diagonal) (c .n) (c .m)
+
+  offs : Offsets (cornerRight c) (cornerUp c) (cornerBack c) (strideFor (cornerPlan c))
+  offs = record {
+    is = eight (λ i. getD (cornerBack c) i 0 ≡ getD (cornerRight c) i 0 * strideFor (cornerPlan c) + getD (cornerUp c) i 0) refl refl refl refl refl refl refl refl;
+  }
+
   above : 33 < cornerPlan c .ey → (33 < c .n) × (33 < c .m)
   above l = go (ltb (c .n) (c .m)) refl l
     where
@@ -266,28 +274,34 @@ module _ (c : Corner) where
       steep = record { le = omega arith; all = λ i h q. omega (arith, form .low i h, form-pos form i h) };
       deep = record { le = omega arith; all = λ i h q. form .low i h };
       fewer = record { gone = λ e i h q. omega (arith, form .ex-le, form .away i (omega (arith, many (c .diagonal))) q) };
-      cornered = λ e. cornered (ltb (c .n) (c .m)) (c .diagonal) (c .n) (c .m);
+      cornered = λ e. corner-steps;
     }
 
     plan-of : PlanOf true (cornerShape c) (cornerPlan c)
     plan-of = record { planned = planned; corner-is = refl; k-is = refl; f-is = refl; ex-is = refl; ey-is = refl }
 
-module _ (c : Corner) {p : Plan} (ep : p ≡ cornerPlan c) where
-  pub corner-over : 33 < p .ey → 2 ^ 64 ≤ countOf (cornerJob c)
-  corner-over l = let h = above c (rw ep at l) in rw (← ends-is c) (ends-over (c .diagonal) (c .n) (c .m) (h .0) (h .1))
+module _ (c : Corner) {y : ℕ} (ey : y ≡ cornerPlan c .ey) where
+  pub corner-over : 33 < y → 2 ^ 64 ≤ countOf (cornerJob c)
+  corner-over l = let h = above c (omega arith) in rw (← ends-is c) (ends-over (c .diagonal) (c .n) (c .m) (h .0) (h .1))
 
-  module _ {sa sc : List ℕ} (ea : sa ≡ cornerRight c) (eu : sc ≡ cornerUp c) (w : Within c) (l : p .ey ≤ 33) where
+  module _ (w : Within c) (l : y ≤ 33) where
+    low : cornerPlan c .ey ≤ 33
+    low = omega arith
+
     shown : Fits (cornerJob c) (cornerShape c)
     shown = fits (ltb (c .n) (c .m)) (c .diagonal) (c .n) (c .m)
 
-    pub corner-planned : Planned sa sc p
-    corner-planned = rw (ep, ea, eu) (planned c w (rw ep at l))
+    pub corner-ready : {cells : ℕ} → cells ≡ cellsFor (cornerPlan c) → (size : ℕ) → cells ≤ size → CornerReady c size
+    corner-ready e size h = prepared-for (planned c w low) (offs c) e size h
 
-    pub corner-number : (e : List ℕ) (x : Numbered) → numberSays x ≡ reply (numberFor p sa sc e) → NumbersOf (cornerJob c) e x
-    corner-number e x h = plan-number (cornerJob c) (cornerShape c) (range c) shown (plan-of c w (rw ep at l)) (letters c) (grids c) e x (rw (ep, ea, eu) at h)
+    pub corner-last : CornerReady c 3712
+    corner-last = prepared-last (planned c w low) (offs c)
 
-    pub corner-builds : (ns steps ends : List ℕ) (x : Built) (t u : List ℕ) → BuildsFor p sa sc ns steps ends t u x → BuildsOf (cornerJob c) ns steps ends t u x
-    corner-builds ns steps ends x t u h = plan-builds (cornerJob c) (cornerShape c) (range c) shown (plan-of c w (rw ep at l)) (letters c) (grids c) ns steps ends x t u (rw (ep, ea, eu) at h)
+    pub corner-number : (e : List ℕ) (x : Numbered) → numberSays x ≡ reply (cornerNumber c e) → NumbersOf (cornerJob c) e x
+    corner-number e x h = plan-number (cornerJob c) (cornerShape c) (range c) shown (plan-of c w low) (letters c) (grids c) e x h
+
+    pub corner-builds : (ns steps ends : List ℕ) (x : Built) (t u : List ℕ) → CornerBuilds c ns steps ends t u x → BuildsOf (cornerJob c) ns steps ends t u x
+    corner-builds ns steps ends x t u h = plan-builds (cornerJob c) (cornerShape c) (range c) shown (plan-of c w low) (letters c) (grids c) ns steps ends x t u h
 
 -- ---- the held job
 

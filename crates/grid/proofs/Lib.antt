@@ -19,3 +19,4 @@ pub mod Worded
 pub mod Builds
 pub mod Corners
 pub mod Along
+pub mod Cornering

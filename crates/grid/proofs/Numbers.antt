@@ -5,7 +5,7 @@
 --   Stand                        (x, y) at a cell lies before the end, and its count fits
 --   reads-at, stand-back         what can be read at a cell that stands before the end, and one step back
 --   read-in, read-is, read-more  the loop of `part_sum`
---   Walking, walking-start, last-in, stays-fits, step-in, step-byte, stepped, ends-fit, walking-end    the loop of `read`
+--   Walking, walking-start, last-in, stays-fits, step-in, step-byte, stepped, step-as, ends-fit, walking-end    the loop of `read`
 --   not-inside, not-letter, not-right, not-up, not-start    where it finds that the bytes are no edge
 use mathlib.Core.Path.{_≡_, refl, sym, ap, _∙_, subst}
 use mathlib.Core.Bool.{Bool, false}
@@ -151,6 +151,11 @@ pub record Stepped (p : plans.Plan) (sa sc off val e : List ℕ) (acc x y cell i
   pub far : getD off l 0 ≤ cell
   pub fits : {v : ℕ} → v ≡ sum (via (p .k) (p .f) sa sc x y) l → acc + v < 2 ^ 64
   pub next : {v : ℕ} → v ≡ sum (via (p .k) (p .f) sa sc x y) l → Walking p sa sc off val e (acc + v) (x - getD sa l 0) (y - getD sc l 0) (cell - getD off l 0) (i - 1)
+
+-- the same by numbers that the code has at hand
+pub step-as : {p : plans.Plan} {sa sc off val e : List ℕ} {acc x y cell i l : ℕ} → Stepped p sa sc off val e acc x y cell i l → {a u o v t : ℕ}
+    → a ≡ getD sa l 0 → u ≡ getD sc l 0 → o ≡ getD off l 0 → v ≡ sum (via (p .k) (p .f) sa sc x y) l → t ≡ acc + v → Walking p sa sc off val e t (x - a) (y - u) (cell - o) (i - 1)
+step-as s ea eu eo ev et = rw (et, ea, eu, eo) (s .next ev)
 
 module _ {p : plans.Plan} {sa sc off val e : List ℕ} where
   pub walking-start : Full p sa sc off val → {cell : ℕ} → cell ≡ place (p .m) (p .ey) (p .ex) (p .ey) → Walking p sa sc off val e 0 (p .ex) (p .ey) cell (length e)

@@ -1,20 +1,31 @@
--- Families 1 and 3: their plan and their steps.
+-- Families 1 and 3: their plan and their steps, and what is said of their table by these.
 --
 --   cornerOf j               the end of the held job j, and whether it has a step D
 --   cornerJob c              the job of document 01 with that end
 --   cornerPlan c             its plan: the end at the lesser of n and m, behind no wall
 --   cornerRight, cornerUp c  its steps N, E and D: how far on, and how far up; N goes up, or E where n is below m
+--   cornerBack c             how far back each step's cells lie
+--   rises c                  how far up N goes: 1, or 0 where n is below m
+--   cornerEnd c              where the end's count stands in the table
 --   Within c                 n and m are at most 64
+--   CornerSizes, CornerReady, CornerBegun, CornerFull    SizesFor, PreparedFor, Begun and Full by that plan and these steps
+--   cornerWalks, cornerNumber, cornerEdge, CornerLists, CornerBuilds    walksFor, numberFor, edgeFor, ListsFor and BuildsFor by them
 use mathlib.Core.Bool.{true, not}
-use mathlib.Core.List.{List, [], _∷_}
-use Prim.Native.Nat.{ℕ, _+_, _-_, _≤_}
+use mathlib.Core.List.{List, [], _∷_, map}
+use Prim.Native.Nat.{ℕ, _+_, _*_, _-_, _≤_}
 use lib.Dec.{eqb, ltb}
+use lib.ListN.{getD}
 use Rattle.howmany.specs.Choose.{pick, bit}
 use Rattle.rules.specs.Jobs as rules
 use Rattle.rules.specs.Jobs.Job.{north-east, delannoy}
+use Rattle.rules.specs.Refusals.{Answer}
 use Rattle.job.specs.declared.Job.{Job}
+use Rattle.job.specs.declared.Built.{Built}
 use Rattle.grid.specs.declared.corner.Corner.{Corner}
 use Rattle.grid.specs.declared.plan.Plan.{Plan}
+use Rattle.grid.specs.Cells.{place}
+use Rattle.grid.specs.Plans.{strideFor, SizesFor, PreparedFor, walksFor, numberFor, edgeFor, ListsFor, BuildsFor}
+use Rattle.grid.specs.Filling.{Begun, Full}
 
 abbrev pub cornerOf : Job → Corner
 cornerOf j = record { n = j .n; m = j .m - 128; diagonal = eqb (j .family) 3 }
@@ -44,6 +55,42 @@ cornerRight c = 1 ∷ 1 ∷ pick (c .diagonal) 2 100 ∷ 100 ∷ 100 ∷ 100 ∷
 abbrev pub cornerUp : Corner → List ℕ
 cornerUp c = bit (not (ltb (c .n) (c .m))) ∷ bit (ltb (c .n) (c .m)) ∷ bit (c .diagonal) ∷ 0 ∷ 0 ∷ 0 ∷ 0 ∷ 0 ∷ []
 
+abbrev pub cornerBack : Corner → List ℕ
+cornerBack c = map (λ i. getD (cornerRight c) i 0 * strideFor (cornerPlan c) + getD (cornerUp c) i 0) (0 ∷ 1 ∷ 2 ∷ 3 ∷ 4 ∷ 5 ∷ 6 ∷ 7 ∷ [])
+
+abbrev pub rises : Corner → ℕ
+rises c = getD (cornerUp c) 0 0
+
+abbrev pub cornerEnd : Corner → ℕ
+cornerEnd c = place 1 (cornerPlan c .ey) (c .n + c .m) (cornerPlan c .ey)
+
 pub record Within (c : Corner) : Type 0 where
   pub n-most : c .n ≤ 64
   pub m-most : c .m ≤ 64
+
+abbrev pub CornerSizes : Corner → Type 0
+CornerSizes c = SizesFor (cornerPlan c)
+
+abbrev pub CornerReady : Corner → ℕ → Type 0
+CornerReady c size = PreparedFor (cornerPlan c) (cornerRight c) (cornerUp c) (cornerBack c) size
+
+abbrev pub CornerBegun : Corner → List ℕ → Type 0
+CornerBegun c val = Begun (cornerPlan c) (cornerRight c) (cornerUp c) (cornerBack c) val
+
+abbrev pub CornerFull : Corner → List ℕ → Type 0
+CornerFull c val = Full (cornerPlan c) (cornerRight c) (cornerUp c) (cornerBack c) val
+
+abbrev pub cornerWalks : Corner → ℕ
+cornerWalks c = walksFor (cornerPlan c) (cornerRight c) (cornerUp c)
+
+abbrev pub cornerNumber : Corner → List ℕ → Answer ℕ
+cornerNumber c e = numberFor (cornerPlan c) (cornerRight c) (cornerUp c) e
+
+abbrev pub cornerEdge : Corner → ℕ → List ℕ
+cornerEdge c r = edgeFor (cornerPlan c) (cornerRight c) (cornerUp c) r
+
+abbrev pub CornerLists : Corner → List ℕ → List ℕ → List ℕ → List ℕ → List ℕ → ℕ → Type 0
+CornerLists c ns steps ends after-steps after-ends at = ListsFor (cornerPlan c) (cornerRight c) (cornerUp c) ns steps ends after-steps after-ends at
+
+abbrev pub CornerBuilds : Corner → List ℕ → List ℕ → List ℕ → List ℕ → List ℕ → Built → Type 0
+CornerBuilds c ns steps ends after-steps after-ends r = BuildsFor (cornerPlan c) (cornerRight c) (cornerUp c) ns steps ends after-steps after-ends r

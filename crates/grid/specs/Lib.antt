@@ -5,9 +5,9 @@ pub mod Edges
 pub mod Heights
 pub mod Shapes
 pub mod Calls
-pub mod Corners
 pub mod Numbering
 pub mod Spelling
 pub mod Plans
 pub mod Filling
+pub mod Corners
 pub mod Rows

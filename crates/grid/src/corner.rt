@@ -1,10 +1,9 @@
 // Families 1 and 3, sheared by (x + y, y), and mirrored where n is below m, so that the end is at the lesser of the two and the table is small.
 ghost use mathlib.Core.Path.{_≡_};
-ghost use lib.Dec.{ltb};
-ghost use Prim.Native.Nat.{_≤_};
-ghost use Rattle.howmany.specs.Choose.{pick};
-ghost use Rattle.grid.specs.Corners.{cornerOf, cornerPlan, cornerRight, cornerUp, Within};
-use crate::plan::Plan;
+ghost use Prim.Native.Nat.{_≤_, _+_, _*_};
+ghost use lib.ListN.{getD};
+ghost use Rattle.grid.specs.Plans.{strideFor, cellsFor};
+ghost use Rattle.grid.specs.Corners.{cornerOf, cornerPlan, cornerBack, cornerEnd, rises, CornerSizes, Within};
 use job::Job;
 
 // The end (n, m), and whether there is a step D.
@@ -28,51 +27,62 @@ pub(crate) fn corner_of(job: Job) -> Corner
     }
 }
 
-fn lesser(a: usize, b: usize) -> usize
-    ensures { λ r. ⌜ r ≡ pick (ltb a b) a b ⌝ }
+// The height of the end: the lesser of n and m.
+pub(crate) fn lesser(c: Corner) -> usize
+    ensures { λ r. ⌜ r ≡ cornerPlan c .ey ⌝ }
 {
-    if a < b {
-        return a;
-    }
-    b
-}
-
-pub(crate) fn plan(c: Corner) -> Plan
-    requires { ⌜ Within c ⌝ }
-    ensures { λ r. ⌜ r ≡ cornerPlan c ⌝ }
-{
-    let ey = lesser(c.n, c.m);
-    let k = if c.diagonal { 3 } else { 2 };
-    Plan {
-        corner: true,
-        few: true,
-        k,
-        f: 0,
-        top: 1,
-        hi: 6,
-        m: 1,
-        ex: c.n + c.m,
-        ey,
-    }
-}
-
-// How far on each step goes.
-pub(crate) fn right(c: Corner) -> [usize; 8]
-    ensures { λ r. ⌜ r ≡ cornerRight c ⌝ }
-{
-    if c.diagonal {
-        return [1, 1, 2, 100, 100, 100, 100, 100];
-    }
-    [1, 1, 100, 100, 100, 100, 100, 100]
-}
-
-// How far up each step goes.
-pub(crate) fn up(c: Corner) -> [usize; 8]
-    ensures { λ r. ⌜ r ≡ cornerUp c ⌝ }
-{
-    let d = if c.diagonal { 1 } else { 0 };
     if c.n < c.m {
-        return [0, 1, d, 0, 0, 0, 0, 0];
+        return c.n;
     }
-    [1, 0, d, 0, 0, 0, 0, 0]
+    c.m
+}
+
+// How far up N goes. E goes up by the rest of 1.
+pub(crate) fn rise_of(c: Corner) -> usize
+    ensures { λ r. ⌜ r ≡ rises c ⌝ }
+{
+    if c.n < c.m {
+        return 0;
+    }
+    1
+}
+
+// How many cells a column has: a zero, and the heights to the end's.
+pub(crate) fn stride_of(c: Corner) -> usize
+    requires { ⌜ CornerSizes c ⌝ }
+    ensures { λ r. ⌜ r ≡ strideFor (cornerPlan c) ⌝ }
+{
+    lesser(c) + 2
+}
+
+// How far back the cell lies that N brings.
+pub(crate) fn north_of(c: Corner) -> usize
+    requires { ⌜ CornerSizes c ⌝ }
+    ensures { λ r. ⌜ r ≡ getD (cornerBack c) 0 0 ⌝ }
+{
+    stride_of(c) + rise_of(c)
+}
+
+// How far back the cell lies that E brings. D's lies as far back as both together.
+pub(crate) fn east_of(c: Corner) -> usize
+    requires { ⌜ CornerSizes c ⌝ }
+    ensures { λ r. ⌜ r ≡ getD (cornerBack c) 1 0 ⌝ }
+{
+    stride_of(c) + (1 - rise_of(c))
+}
+
+// Where the end's count stands.
+pub(crate) fn end_of(c: Corner) -> usize
+    requires { ⌜ CornerSizes c ⌝ }
+    ensures { λ r. ⌜ r ≡ cornerEnd c ⌝ }
+{
+    (c.n + c.m + 1) * stride_of(c) + (lesser(c) + 1)
+}
+
+// How many cells the table has.
+pub(crate) fn cells_of(c: Corner) -> usize
+    requires { ⌜ Within c ⌝ }
+    ensures { λ r. ⌜ r ≡ cellsFor (cornerPlan c) ⌝ }
+{
+    (c.n + c.m + 2) * (lesser(c) + 2)
 }

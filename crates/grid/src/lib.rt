@@ -5,12 +5,13 @@ ghost use Rattle.rules.specs.Answers.{countAnswer, numberAnswer};
 ghost use Rattle.rules.specs.Questions.{edgesAnswer};
 ghost use Rattle.job.specs.Replies.{reply, countSays, numberSays};
 ghost use Rattle.lines.specs.Lines.{lines, LinedAs, Room};
-ghost use Rattle.grid.specs.Calls.{forGrid, toldOf, BuildsAs, BuildsOf, Countable, CountsAs, CountsOf, NumbersAs, NumbersOf};
-ghost use Rattle.grid.specs.Corners.{cornerJob, Within};
+ghost use Rattle.grid.specs.Calls.{forGrid, toldOf, BuildsAs, Countable, CountsAs, NumbersAs};
 
 mod column;
 mod cone;
 mod corner;
+mod corner_numbering;
+mod corner_spelling;
 mod counting;
 mod edges;
 mod flags;
@@ -22,7 +23,6 @@ mod shape;
 mod spelling;
 mod table;
 
-use corner::Corner;
 use job::Built;
 use job::Counted;
 use job::Job;
@@ -94,23 +94,10 @@ pub fn number(block: &[u8], edge: &[u8]) -> Numbered
     let job = made.job;
     if job.family < 6 {
         let c = corner::corner_of(job);
-        return number_corner(c, edge);
+        return corner_numbering::number(c, edge);
     }
     let s = shape::shape_of(job);
     number_shape(s, edge)
-}
-
-fn number_corner(c: Corner, edge: &[u8]) -> Numbered
-    requires { ⌜ Within c ⌝ }
-    ensures { λ r. ⌜ NumbersOf (cornerJob c) (now (edge .entry)) r ⌝ }
-{
-    let p = corner::plan(c);
-    if corner::HIGHEST < p.ey {
-        return Numbered::Refused(4);
-    }
-    let sa = corner::right(c);
-    let sc = corner::up(c);
-    numbering::number(&sa, &sc, p, edge)
 }
 
 fn number_shape(s: Shape, edge: &[u8]) -> Numbered
@@ -145,23 +132,10 @@ pub fn build_all(block: &[u8], numbers: &[u64], steps: &mut [u8], ends: &mut [us
     let job = made.job;
     if job.family < 6 {
         let c = corner::corner_of(job);
-        return build_corner(c, numbers, steps, ends);
+        return corner_spelling::spell_edges(c, numbers, steps, ends);
     }
     let s = shape::shape_of(job);
     build_shape(s, numbers, steps, ends)
-}
-
-fn build_corner(c: Corner, numbers: &[u64], steps: &mut [u8], ends: &mut [usize]) -> Built
-    requires { ⌜ Within c × Room (length (now numbers)) (length (now steps)) (length (now ends)) ⌝ }
-    ensures { λ r. ⌜ BuildsOf (cornerJob c) (now (numbers .entry)) (now (steps .entry)) (now (ends .entry)) (now (steps .exit)) (now (ends .exit)) r ⌝ }
-{
-    let p = corner::plan(c);
-    if corner::HIGHEST < p.ey {
-        return Built::Refused(4);
-    }
-    let sa = corner::right(c);
-    let sc = corner::up(c);
-    spelling::spell_edges(&sa, &sc, p, numbers, steps, ends)
 }
 
 fn build_shape(s: Shape, numbers: &[u64], steps: &mut [u8], ends: &mut [usize]) -> Built

@@ -5,11 +5,14 @@ ghost use Prim.Native.Nat.{_-_, _<_};
 ghost use lib.Dec.{eqb};
 ghost use lib.ListN.{length, getD};
 ghost use Rattle.howmany.specs.Choose.{pick};
-ghost use Rattle.grid.specs.Filling.{Begun, Filled};
-ghost use Rattle.grid.specs.Plans.{CorneredFor};
+ghost use Rattle.grid.specs.Filling.{Filled};
 ghost use Rattle.grid.specs.Rows.{Rowing, Rowed, Risen};
+ghost use Rattle.grid.specs.Corners.{cornerPlan, cornerRight, cornerUp, cornerBack, CornerBegun};
 use crate::Answer;
-use crate::plan::Plan;
+use crate::corner::Corner;
+use crate::corner::end_of;
+use crate::corner::lesser;
+use crate::corner::stride_of;
 use std::num::wrapping_add_u64;
 
 // The first cell of row y, which stands at `at`: the one before it on the diagonal.
@@ -32,26 +35,19 @@ fn across(val: &[u64], three: bool, stride: usize, at: usize) -> u64
 }
 
 // Row y, from column y on: whether all its counts fit 64 bits. A sum that doesn't wraps, and is then below what was added.
-fn row(
-    val: &mut [u64],
-    sa: &[usize; 8],
-    sc: &[usize; 8],
-    off: &[usize; 8],
-    p: Plan,
-    y: usize,
-) -> bool
-    requires { ⌜ Rowing p (now sa) (now sc) (now off) (now val) y ⌝ }
-    ensures { λ r. ⌜ Rowed p (now (sa .entry)) (now (sc .entry)) (now (val .exit)) y r ⌝ }
+fn row(val: &mut [u64], c: Corner, y: usize) -> bool
+    requires { ⌜ Rowing (cornerPlan c) (cornerRight c) (cornerUp c) (cornerBack c) (now val) y ⌝ }
+    ensures { λ r. ⌜ Rowed (cornerPlan c) (cornerRight c) (cornerUp c) (now (val .exit)) y r ⌝ }
 {
-    let stride = p.m + p.ey + 1;
-    let n = p.ex - p.ey;
-    let mut at = (y + 1) * stride + p.m + y;
+    let stride = stride_of(c);
+    let n = c.n + c.m - lesser(c);
+    let mut at = (y + 1) * stride + 1 + y;
     let mut sum = first(val, stride, y, at);
     val[at] = sum;
     let mut i = 0;
     while i < n {
         let a = val[at - 1];
-        let b = across(val, p.k == 3, stride, at);
+        let b = across(val, c.diagonal, stride, at);
         sum = wrapping_add_u64(sum, a);
         if sum < a {
             return false;
@@ -68,14 +64,14 @@ fn row(
 }
 
 // All rows: whether the count at the end fits 64 bits.
-fn all_rows(val: &mut [u64], sa: &[usize; 8], sc: &[usize; 8], off: &[usize; 8], p: Plan) -> bool
-    requires { ⌜ Begun p (now sa) (now sc) (now off) (now val) × CorneredFor p (now sa) (now sc) ⌝ }
-    ensures { λ r. ⌜ Risen p (now (sa .entry)) (now (sc .entry)) (now (val .exit)) r ⌝ }
+fn all_rows(val: &mut [u64], c: Corner) -> bool
+    requires { ⌜ CornerBegun c (now val) ⌝ }
+    ensures { λ r. ⌜ Risen (cornerPlan c) (cornerRight c) (cornerUp c) (now (val .exit)) r ⌝ }
 {
-    let ey = p.ey;
+    let ey = lesser(c);
     let mut y = 0;
     while y <= ey {
-        if !row(val, sa, sc, off, p, y) {
+        if !row(val, c, y) {
             return false;
         }
         y += 1;
@@ -84,20 +80,14 @@ fn all_rows(val: &mut [u64], sa: &[usize; 8], sc: &[usize; 8], off: &[usize; 8],
 }
 
 // The whole table; the answer is the count at the end.
-pub(crate) fn fill_rows(
-    val: &mut [u64],
-    sa: &[usize; 8],
-    sc: &[usize; 8],
-    off: &[usize; 8],
-    p: Plan,
-) -> Answer
-    requires { ⌜ Begun p (now sa) (now sc) (now off) (now val) × CorneredFor p (now sa) (now sc) ⌝ }
-    ensures { λ r. ⌜ Filled p (now (sa .entry)) (now (sc .entry)) (now (val .exit)) r ⌝ }
+pub(crate) fn fill_rows(val: &mut [u64], c: Corner) -> Answer
+    requires { ⌜ CornerBegun c (now val) ⌝ }
+    ensures { λ r. ⌜ Filled (cornerPlan c) (cornerRight c) (cornerUp c) (now (val .exit)) r ⌝ }
 {
-    if !all_rows(val, sa, sc, off, p) {
+    if !all_rows(val, c) {
         return Answer::Over;
     }
-    let end = (p.ex + 1) * (p.m + p.ey + 1) + p.m + p.ey;
-    let v = val[end];
+    let last = end_of(c);
+    let v = val[last];
     Answer::Count(v)
 }

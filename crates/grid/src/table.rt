@@ -11,7 +11,6 @@ use crate::flags::cell;
 use crate::flags::put;
 use crate::flags::total;
 use crate::plan::Plan;
-use crate::rows::fill_rows;
 
 // Column x. Whether the next one can be summed without a test.
 fn step(
@@ -149,8 +148,8 @@ fn rest(
     cell(val, &ov, (ex + 1) * (p.m + p.ey + 1) + p.m + p.ey)
 }
 
-// The whole table column by column; the answer is the count at the end.
-fn fill_columns(
+// The whole table; the answer is the count at the end.
+pub(crate) fn fill(
     val: &mut [u64],
     sa: &[usize; 8],
     sc: &[usize; 8],
@@ -170,21 +169,4 @@ fn fill_columns(
     let end = (p.ex + 1) * (p.m + p.ey + 1) + p.m + p.ey;
     let v = val[end];
     Answer::Count(v)
-}
-
-// The whole table, of families 1 and 3 row by row; the answer is the count at the end.
-pub(crate) fn fill(
-    val: &mut [u64],
-    sa: &[usize; 8],
-    sc: &[usize; 8],
-    off: &[usize; 8],
-    p: Plan,
-) -> Answer
-    requires { ⌜ Begun p (now sa) (now sc) (now off) (now val) ⌝ }
-    ensures { λ r. ⌜ Filled p (now (sa .entry)) (now (sc .entry)) (now (val .exit)) r ⌝ }
-{
-    if p.corner {
-        return fill_rows(val, sa, sc, off, p);
-    }
-    fill_columns(val, sa, sc, off, p)
 }

@@ -35,8 +35,8 @@ corner-of-requires : tie.Need-corner-of-requires
 corner-of-requires c κs =
     corner-level _ (sound-of (c .before .before .before .before .before .before .before .before .before .before .before .before .before .args .block .now) (c .before .before .before .before .of .result .job) (kept-of (c .before .before .before .before .before .before .before .before .before .before .before .before .before .args .block .now) (c .before .before .before .before .of .result) (λ i. c .before .before .before .before .before .before .before .before .before .before .before .before .shared-slice-known .given i .fits) (c .before .before .before .before .of .ensures) (c .before .before .before .if3 .left)) (sym (c .before .before .before .before .before .before .is-square .ensures) ∙ c .before .before .before .before .before .if2 .left)) (c .if4 .taken) .m-least
 
-build-corner-requires : tie.Need-build-corner-requires
-build-corner-requires c κs =
+spell-edges-requires : tie.Need-spell-edges-requires
+spell-edges-requires c κs =
     (rw (c .before .before .corner-of .ensures) (corner-level _ (sound-of (c .before .before .before .before .before .before .before .before .before .before .before .before .before .before .before .before .args .block .now) (c .before .before .before .before .before .before .before .of .result .job) (kept-of (c .before .before .before .before .before .before .before .before .before .before .before .before .before .before .before .before .args .block .now) (c .before .before .before .before .before .before .before .of .result) (λ i. c .before .before .before .before .before .before .before .before .before .before .before .before .before .before .before .shared-slice-known .given i .fits) (c .before .before .before .before .before .before .before .of .ensures) (c .before .before .before .before .before .before .if3 .left)) (sym (c .before .before .before .before .before .before .before .before .before .is-square .ensures) ∙ c .before .before .before .before .before .before .before .before .if2 .left)) (c .before .before .before .if4 .taken) .within), room-of _ _ _ (sym (c .before .before .before .before .before .before .before .before .before .before .before .has-room .ensures) ∙ not-false _ (c .before .before .before .before .before .before .before .before .before .before .if1 .left)))
 
 same-length : tie.Need-same-length
@@ -47,7 +47,7 @@ same-length-2 c = search needs
 
 returns-4 : tie.Need-returns-4
 returns-4 c =
-    lines-room _ (c .before .before .before .before .before .before .before .before .before .before .before .before .before .before .before .before .before .before .before .before .before .args .numbers .now) _ _ _ _ _ (sym (c .before .before .before .before .before .before .before .before .before .before .before .before .before .before .before .before .has-room .ensures) ∙ not-false _ (c .before .before .before .before .before .before .before .before .before .before .before .before .before .before .before .if1 .left)) (build-reply (c .before .before .before .before .before .before .before .before .before .before .before .before .before .before .before .before .before .before .before .before .before .args .block .now) (c .before .before .before .before .before .before .before .before .before .before .before .before .before .before .before .before .before .before .before .before .before .args .numbers .now) _ _ _ _ _ _ (sym (c .before .before .before .before .before .before .before .before .before .before .before .before .before .before .is-square .ensures) ∙ c .before .before .before .before .before .before .before .before .before .before .before .before .before .if2 .left) (corner-answer (c .before .before .before .before .before .before .before .before .before .before .before .before .before .before .before .before .before .before .before .before .before .args .block .now) (c .before .before .before .before .before .before .before .before .before .before .before .before .of .result .job) (kept-of (c .before .before .before .before .before .before .before .before .before .before .before .before .before .before .before .before .before .before .before .before .before .args .block .now) (c .before .before .before .before .before .before .before .before .before .before .before .before .of .result) (λ i. c .before .before .before .before .before .before .before .before .before .before .before .before .before .before .before .before .before .before .before .before .shared-slice-known .given i .fits) (c .before .before .before .before .before .before .before .before .before .before .before .before .of .ensures) (c .before .before .before .before .before .before .before .before .before .before .before .if3 .left)) (sym (c .before .before .before .before .before .before .before .before .before .before .before .before .before .before .is-square .ensures) ∙ c .before .before .before .before .before .before .before .before .before .before .before .before .before .if2 .left) (c .before .before .before .before .before .before .before .before .if4 .taken) _ (c .before .before .before .before .before .before .before .corner-of .ensures)) (c .before .before .before .before .build-corner .ensures))
+    lines-room _ (c .before .before .before .before .before .before .before .before .before .before .before .before .before .before .before .before .before .before .before .before .before .args .numbers .now) _ _ _ _ _ (sym (c .before .before .before .before .before .before .before .before .before .before .before .before .before .before .before .before .has-room .ensures) ∙ not-false _ (c .before .before .before .before .before .before .before .before .before .before .before .before .before .before .before .if1 .left)) (build-reply (c .before .before .before .before .before .before .before .before .before .before .before .before .before .before .before .before .before .before .before .before .before .args .block .now) (c .before .before .before .before .before .before .before .before .before .before .before .before .before .before .before .before .before .before .before .before .before .args .numbers .now) _ _ _ _ _ _ (sym (c .before .before .before .before .before .before .before .before .before .before .before .before .before .before .is-square .ensures) ∙ c .before .before .before .before .before .before .before .before .before .before .before .before .before .if2 .left) (corner-answer (c .before .before .before .before .before .before .before .before .before .before .before .before .before .before .before .before .before .before .before .before .before .args .block .now) (c .before .before .before .before .before .before .before .before .before .before .before .before .of .result .job) (kept-of (c .before .before .before .before .before .before .before .before .before .before .before .before .before .before .before .before .before .before .before .before .before .args .block .now) (c .before .before .before .before .before .before .before .before .before .before .before .before .of .result) (λ i. c .before .before .before .before .before .before .before .before .before .before .before .before .before .before .before .before .before .before .before .before .shared-slice-known .given i .fits) (c .before .before .before .before .before .before .before .before .before .before .before .before .of .ensures) (c .before .before .before .before .before .before .before .before .before .before .before .if3 .left)) (sym (c .before .before .before .before .before .before .before .before .before .before .before .before .before .before .is-square .ensures) ∙ c .before .before .before .before .before .before .before .before .before .before .before .before .before .if2 .left) (c .before .before .before .before .before .before .before .before .if4 .taken) _ (c .before .before .before .before .before .before .before .corner-of .ensures)) (c .before .before .before .before .spell-edges .ensures))
 
 shape-of-requires : tie.Need-shape-of-requires
 shape-of-requires c κs =
@@ -78,7 +78,7 @@ build-all-spec =
     of-requires
     returns-3
     corner-of-requires
-    build-corner-requires
+    spell-edges-requires
     same-length
     same-length-2
     returns-4

@@ -25,13 +25,13 @@ corner-of-requires : tie.Need-corner-of-requires
 corner-of-requires c κs =
     corner-level _ (sound-of (c .before .before .before .before .before .before .before .before .before .args .block .now) (c .before .before .before .before .of .result .job) (kept-of (c .before .before .before .before .before .before .before .before .before .args .block .now) (c .before .before .before .before .of .result) (λ i. c .before .before .before .before .before .before .before .before .shared-slice-known .given i .fits) (c .before .before .before .before .of .ensures) (c .before .before .before .if2 .left)) (sym (c .before .before .before .before .before .before .is-square .ensures) ∙ c .before .before .before .before .before .if1 .left)) (c .if3 .taken) .m-least
 
-number-corner-requires : tie.Need-number-corner-requires
-number-corner-requires c κs =
+number-requires : tie.Need-number-requires
+number-requires c κs =
     rw (c .corner-of .ensures) (corner-level _ (sound-of (c .before .before .before .before .before .before .before .before .before .before .args .block .now) (c .before .before .before .before .before .of .result .job) (kept-of (c .before .before .before .before .before .before .before .before .before .before .args .block .now) (c .before .before .before .before .before .of .result) (λ i. c .before .before .before .before .before .before .before .before .before .shared-slice-known .given i .fits) (c .before .before .before .before .before .of .ensures) (c .before .before .before .before .if2 .left)) (sym (c .before .before .before .before .before .before .before .is-square .ensures) ∙ c .before .before .before .before .before .before .if1 .left)) (c .before .if3 .taken) .within)
 
 returns-3 : tie.Need-returns-3
 returns-3 c =
-    number-reply (c .before .before .before .before .before .before .before .before .before .before .before .args .block .now) _ _ (c .number-corner .result) (sym (c .before .before .before .before .before .before .before .before .is-square .ensures) ∙ c .before .before .before .before .before .before .before .if1 .left) (corner-answer (c .before .before .before .before .before .before .before .before .before .before .before .args .block .now) (c .before .before .before .before .before .before .of .result .job) (kept-of (c .before .before .before .before .before .before .before .before .before .before .before .args .block .now) (c .before .before .before .before .before .before .of .result) (λ i. c .before .before .before .before .before .before .before .before .before .before .shared-slice-known .given i .fits) (c .before .before .before .before .before .before .of .ensures) (c .before .before .before .before .before .if2 .left)) (sym (c .before .before .before .before .before .before .before .before .is-square .ensures) ∙ c .before .before .before .before .before .before .before .if1 .left) (c .before .before .if3 .taken) _ (c .before .corner-of .ensures)) (c .number-corner .ensures)
+    number-reply (c .before .before .before .before .before .before .before .before .before .before .before .args .block .now) _ _ (c .number .result) (sym (c .before .before .before .before .before .before .before .before .is-square .ensures) ∙ c .before .before .before .before .before .before .before .if1 .left) (corner-answer (c .before .before .before .before .before .before .before .before .before .before .before .args .block .now) (c .before .before .before .before .before .before .of .result .job) (kept-of (c .before .before .before .before .before .before .before .before .before .before .before .args .block .now) (c .before .before .before .before .before .before .of .result) (λ i. c .before .before .before .before .before .before .before .before .before .before .shared-slice-known .given i .fits) (c .before .before .before .before .before .before .of .ensures) (c .before .before .before .before .before .if2 .left)) (sym (c .before .before .before .before .before .before .before .before .is-square .ensures) ∙ c .before .before .before .before .before .before .before .if1 .left) (c .before .before .if3 .taken) _ (c .before .corner-of .ensures)) (c .number .ensures)
 
 shape-of-requires : tie.Need-shape-of-requires
 shape-of-requires c κs =
@@ -54,7 +54,7 @@ number-spec =
     of-requires
     returns-2
     corner-of-requires
-    number-corner-requires
+    number-requires
     returns-3
     shape-of-requires
     number-shape-requires

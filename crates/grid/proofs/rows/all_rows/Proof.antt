@@ -1,3 +1,4 @@
+-- `grid::rows::all_rows` meets its contract: row by row. Assumes nothing.
 use Prim.Native.Nat.{_+_, _-_, _≤_}
 use mathlib.Core.Path.{_≡_, refl}
 use native.Mathlib.Omega.{arith}
@@ -5,29 +6,34 @@ use lib.ListN.{length}
 use borrow.Author.Needs.{needs}
 use borrow.Author.Tests.{not-false, not-true}
 use Rattle.grid.specs.Rows.{RowsFor}
-use Rattle.grid.specs.Plans.{PreparedFor}
+use Rattle.grid.specs.Corners.{cornerPlan, cornerRight, cornerUp, CornerReady}
 use Rattle.grid.proofs.Phases.{ready-len}
 use Rattle.grid.proofs.Along.{rows-none, risen-of, risen-over}
+use Rattle.grid.proofs.Corners.{corner-steps}
 use Rattle.grid.proofs.rows.all_rows.Statement.{statement}
 use Rattle.grid.proofs.rows.all_rows.Tie as tie
 
 abbrev Inv-loop : tie.InvT-loop
-Inv-loop val₀ sa sc off p ey y₀ val y = (length val ≡ length val₀) × (y ≤ p .ey + 1) × PreparedFor p sa sc off (length val) × RowsFor p sa sc val y 0
+Inv-loop val₀ c ey y₀ val y =
+    (length val ≡ length val₀) × (y ≤ cornerPlan c .ey + 1) × CornerReady c (length val) × RowsFor (cornerPlan c) (cornerRight c) (cornerUp c) val y 0
 
 abbrev μ-loop : tie.MeasureT-loop
-μ-loop val₀ sa sc off p ey y₀ val y = p .ey + 1 - y
+μ-loop val₀ c ey y₀ val y = cornerPlan c .ey + 1 - y
+
+lesser-requires : tie.Need-lesser-requires Inv-loop μ-loop
+lesser-requires c κs =
+    tt
 
 loop-holds : tie.Need-loop-holds Inv-loop μ-loop
 loop-holds c =
-    (refl, omega arith, c .before .pre .0 .ready, rows-none (c .before .pre .0 .zero-at))
+    (refl, omega arith, c .before .before .pre .ready, rows-none (c .before .before .pre .zero-at))
 
 row-requires : tie.Need-row-requires Inv-loop μ-loop
 row-requires c κs =
-    record { ready = c .before .before .loop .inv .2; steps = c .before .before .before .before .pre .1; rows = c .before .before .loop .inv .3; inside = c .before .loop-test .taken }
+    record { ready = c .before .before .loop .inv .2; steps = corner-steps (c .before .before .before .before .before .args .c); rows = c .before .before .loop .inv .3; inside = (omega (arith, c .before .loop-test .taken, c .before .before .before .lesser .ensures)) }
 
 same-length : tie.Need-same-length Inv-loop μ-loop
-same-length c =
-    search needs
+same-length c = search needs
 
 returns : tie.Need-returns Inv-loop μ-loop
 returns c =
@@ -35,23 +41,22 @@ returns c =
 
 add-y : tie.Need-add-y Inv-loop μ-loop
 add-y c =
-    omega (arith, c .before .before .before .before .before .loop-test .taken, c .before .before .before .before .before .before .before .before .pre .0 .ready .sizes .ey-le)
+    omega (arith, c .before .before .before .before .before .loop-test .taken, c .before .before .before .before .before .before .before .lesser .ensures, c .before .before .before .before .before .before .before .before .before .pre .ready .sizes .ey-le)
 
 loop-less : tie.Need-loop-less Inv-loop μ-loop
 loop-less c =
-    omega (arith, c .before .before .before .before .before .loop-test .taken)
+    omega (arith, c .before .before .before .before .before .loop-test .taken, c .before .before .before .before .before .before .before .lesser .ensures)
 
 loop-again : tie.Need-loop-again Inv-loop μ-loop
 loop-again c =
-    (omega (arith, c .before .before .before .before .before .before .loop .inv .0), omega (arith, c .before .before .before .before .before .loop-test .taken), ready-len (c .before .before .before .before .before .before .loop .inv .2) (omega arith), c .before .before .before .row .ensures .rows (not-false _ (c .if1 .left)))
+    (omega (arith, c .before .before .before .before .before .before .loop .inv .0), omega (arith, c .before .before .before .before .before .loop-test .taken, c .before .before .before .before .before .before .before .lesser .ensures), ready-len (c .before .before .before .before .before .before .loop .inv .2) (omega arith), c .before .before .before .row .ensures .rows (not-false _ (c .if1 .left)))
 
 same-length-2 : tie.Need-same-length-2 Inv-loop μ-loop
-same-length-2 c =
-    search needs
+same-length-2 c = search needs
 
 returns-2 : tie.Need-returns-2 Inv-loop μ-loop
 returns-2 c =
-    risen-of (c .before .loop .inv .2) (c .before .before .before .pre .1) (c .before .loop .inv .3) (omega (arith, c .before .loop .inv .1, c .loop-test .left))
+    risen-of (c .before .loop .inv .2) (corner-steps (c .before .before .before .before .args .c)) (c .before .loop .inv .3) (omega (arith, c .before .loop .inv .1, c .loop-test .left, c .before .before .lesser .ensures))
 
 pub all-rows-spec : {M : Type 1} → statement M
 all-rows-spec =
@@ -59,6 +64,7 @@ all-rows-spec =
     (tie.spec
     Inv-loop
     μ-loop
+    lesser-requires
     loop-holds
     row-requires
     same-length

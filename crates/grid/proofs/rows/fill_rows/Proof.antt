@@ -1,6 +1,7 @@
+-- `grid::rows::fill_rows` meets its contract: the end's cell of a table whose rows all fit has the count. Assumes nothing.
 use mathlib.Core.Path.{refl}
 use native.Mathlib.Omega.{arith}
-use Rattle.grid.proofs.Phases.{got-filled}
+use Rattle.grid.proofs.Phases.{end-room, end-cells, got-filled}
 use Rattle.grid.proofs.Along.{rows-over}
 use borrow.Author.Needs.{needs}
 use borrow.Author.Tests.{not-true, not-false}
@@ -14,37 +15,27 @@ same-length : tie.Need-same-length
 same-length c = search needs
 
 returns : tie.Need-returns
-returns c = rows-over (c .before .before .before .all-rows .ensures .over (not-true _ (c .if1 .taken)))
+returns c =
+    rows-over (c .before .before .before .all-rows .ensures .over (not-true _ (c .if1 .taken)))
 
-add-end : tie.Need-add-end
-add-end c = search needs
-
-add-end-2 : tie.Need-add-end-2
-add-end-2 c = search needs
-
-add-end-3 : tie.Need-add-end-3
-add-end-3 c = search needs
-
-mul-end : tie.Need-mul-end
-mul-end c = search needs
-
-add-end-4 : tie.Need-add-end-4
-add-end-4 c = search needs
-
-add-end-5 : tie.Need-add-end-5
-add-end-5 c = search needs
+end-of-requires : tie.Need-end-of-requires
+end-of-requires c κs =
+    c .before .before .before .before .before .before .pre .ready .sizes
 
 mul-v : tie.Need-mul-v
-mul-v c = search needs
+mul-v c =
+    omega (arith, c .end-of .ensures, end-cells (c .before .before .before .before .before .before .before .pre .ready))
 
 slice-read-v : tie.Need-slice-read-v
-slice-read-v c = search needs
+slice-read-v c =
+    omega (arith, c .before .end-of .ensures, end-room (c .before .before .before .before .before .before .before .before .pre .ready))
 
 same-length-2 : tie.Need-same-length-2
 same-length-2 c = search needs
 
 returns-2 : tie.Need-returns-2
-returns-2 c = got-filled (c .before .before .before .before .before .before .before .before .all-rows .ensures .got (not-false _ (c .before .before .before .before .before .if1 .left))) refl (λ j. omega (arith, c .before .before .before .before .before .before .slice-known2 .given j)) refl (omega arith)
+returns-2 c =
+    got-filled (c .before .before .before .before .before .all-rows .ensures .got (not-false _ (c .before .before .if1 .left))) refl (λ j. omega (arith, c .before .before .before .slice-known2 .given j)) refl (c .before .end-of .ensures)
 
 pub fill-rows-spec : {M : Type 1} → statement M
 fill-rows-spec =
@@ -53,12 +44,7 @@ fill-rows-spec =
     all-rows-requires
     same-length
     returns
-    add-end
-    add-end-2
-    add-end-3
-    mul-end
-    add-end-4
-    add-end-5
+    end-of-requires
     mul-v
     slice-read-v
     same-length-2

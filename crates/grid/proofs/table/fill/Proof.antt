@@ -1,12 +1,18 @@
--- `grid::table::fill` meets its contract: row by row where the plan says that the steps are a corner's, else column by column. Assumes nothing.
+use native.Mathlib.Omega.{arith}
+use mathlib.Core.Path.{refl}
+use Rattle.grid.proofs.Phases.{ready-len, place-sum, end-placed, end-room, got-filled}
 use borrow.Author.Needs.{needs}
 use Rattle.grid.proofs.table.fill.Statement.{statement}
 use Rattle.grid.proofs.table.fill.Tie as tie
 
-fill-rows-requires : tie.Need-fill-rows-requires
-fill-rows-requires c κs =
-    let b = c .before .before .before .pre in
-    (b, b .ready .cornered (c .before .if1 .taken))
+spans-requires : tie.Need-spans-requires
+spans-requires c κs = ((c .before .before .before .pre .ready .sizes .f-le, c .before .before .before .pre .ready .sizes .hi-le, c .before .before .before .pre .ready .sizes .ex-le, c .before .before .before .pre .ready .sizes .ey-le), (omega (arith, c .before .before .before .pre .ready .sizes .ex-le), omega (arith, c .before .before .before .pre .ready .sizes .ex-le)))
+
+fast-requires : tie.Need-fast-requires
+fast-requires c κs = search needs
+
+rest-requires : tie.Need-rest-requires
+rest-requires c κs = (record { ready = ready-len (c .before .before .before .before .before .before .before .before .before .before .before .before .before .before .before .pre .ready) (omega arith); table = c .before .before .before .before .before .before .before .fast .ensures .table; start = c .before .before .before .before .before .before .before .fast .ensures .start; end = c .before .before .before .if1 .taken }, c .before .before .before .before .before .before .before .before .before .before .before .spans .ensures)
 
 same-length : tie.Need-same-length
 same-length c = search needs
@@ -14,22 +20,52 @@ same-length c = search needs
 returns : tie.Need-returns
 returns c = search needs
 
-fill-columns-requires : tie.Need-fill-columns-requires
-fill-columns-requires c κs = search needs
+add-end : tie.Need-add-end
+add-end c = record { fits = end-placed (c .before .before .before .before .before .before .before .before .before .before .before .before .before .pre .ready .sizes) .next }
+
+add-end-2 : tie.Need-add-end-2
+add-end-2 c = record { fits = end-placed (c .before .before .before .before .before .before .before .before .before .before .before .before .before .before .pre .ready .sizes) .tall }
+
+add-end-3 : tie.Need-add-end-3
+add-end-3 c = record { fits = end-placed (c .before .before .before .before .before .before .before .before .before .before .before .before .before .before .pre .ready .sizes) .stride }
+
+mul-end : tie.Need-mul-end
+mul-end c = record { fits = end-placed (c .before .before .before .before .before .before .before .before .before .before .before .before .before .before .pre .ready .sizes) .column }
+
+add-end-4 : tie.Need-add-end-4
+add-end-4 c = record { fits = end-placed (c .before .before .before .before .before .before .before .before .before .before .before .before .before .before .before .pre .ready .sizes) .base }
+
+add-end-5 : tie.Need-add-end-5
+add-end-5 c = record { fits = end-placed (c .before .before .before .before .before .before .before .before .before .before .before .before .before .before .before .before .pre .ready .sizes) .cell }
+
+mul-v : tie.Need-mul-v
+mul-v c = record { fits = end-placed (c .before .before .before .before .before .before .before .before .before .before .before .before .before .before .before .before .pre .ready .sizes) .byte }
+
+slice-read-v : tie.Need-slice-read-v
+slice-read-v c = omega (arith, end-room (c .before .before .before .before .before .before .before .before .before .before .before .before .before .before .before .before .before .pre .ready))
 
 same-length-2 : tie.Need-same-length-2
 same-length-2 c = search needs
 
 returns-2 : tie.Need-returns-2
-returns-2 c = search needs
+returns-2 c = got-filled (c .before .before .before .before .before .before .before .before .before .fast .ensures) (omega arith) (λ j. omega (arith, c .before .before .before .before .before .before .before .slice-known2 .given j)) refl (place-sum _ _ _ _)
 
 pub fill-spec : {M : Type 1} → statement M
 fill-spec =
     tie.close
     (tie.spec
-    fill-rows-requires
+    spans-requires
+    fast-requires
+    rest-requires
     same-length
     returns
-    fill-columns-requires
+    add-end
+    add-end-2
+    add-end-3
+    mul-end
+    add-end-4
+    add-end-5
+    mul-v
+    slice-read-v
     same-length-2
     returns-2)

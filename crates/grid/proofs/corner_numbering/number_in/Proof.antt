@@ -1,0 +1,48 @@
+-- `grid::corner_numbering::number_in` meets its contract: by the table's answer and the edge read. Assumes nothing.
+use mathlib.Core.Path.{sym, _∙_}
+use Rattle.grid.specs.Corners.{cornerPlan}
+use Rattle.grid.proofs.Laws.{cap-count, cap-over, count-over}
+use Rattle.grid.proofs.Phases.{ready-len}
+use Rattle.grid.proofs.Tabled.{table-over}
+use borrow.Author.Needs.{needs}
+use Rattle.grid.proofs.corner_numbering.number_in.Statement.{statement}
+use Rattle.grid.proofs.corner_numbering.number_in.Tie as tie
+
+fill-rows-requires : tie.Need-fill-rows-requires
+fill-rows-requires c κs = search needs
+
+enum-told : tie.Need-enum-told
+enum-told c = search needs
+
+same-length : tie.Need-same-length
+same-length c = search needs
+
+returns : tie.Need-returns
+returns c =
+    table-over (cornerPlan (c .before .before .before .before .before .before .before .before .args .c)) _ _ _ (cap-over _ (sym (c .before .before .before .before .fill-rows .ensures .answer) ∙ c .enum-told .given .1))
+
+enum-told-2 : tie.Need-enum-told-2
+enum-told-2 c = search needs
+
+read-requires : tie.Need-read-requires
+read-requires c κs =
+    record { ready = ready-len (c .before .before .before .before .before .before .before .before .before .pre .ready) (search needs); solid = c .before .before .before .before .before .fill-rows .ensures .solid (count-over (c .before .enum-told2 .given .1)); fits = cap-count _ _ (sym (c .before .before .before .before .before .fill-rows .ensures .answer) ∙ c .before .enum-told2 .given .1) .1 }
+
+same-length-2 : tie.Need-same-length-2
+same-length-2 c = search needs
+
+returns-2 : tie.Need-returns-2
+returns-2 c = search needs
+
+pub number-in-spec : {M : Type 1} → statement M
+number-in-spec =
+    tie.close
+    (tie.spec
+    fill-rows-requires
+    enum-told
+    same-length
+    returns
+    enum-told-2
+    read-requires
+    same-length-2
+    returns-2)

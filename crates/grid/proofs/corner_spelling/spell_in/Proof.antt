@@ -1,0 +1,72 @@
+-- `grid::corner_spelling::spell_in` meets its contract: by the table's answer and the numbers. Assumes nothing.
+use mathlib.Core.Path.{sym, _∙_}
+use borrow.Author.Tests.{not-true, not-false}
+use Rattle.grid.specs.Corners.{cornerPlan}
+use Rattle.grid.proofs.Laws.{cap-count, cap-over, count-over}
+use Rattle.grid.proofs.Phases.{ready-len}
+use Rattle.grid.proofs.Builds.{below-told, for-over, for-beyond, for-all}
+use borrow.Author.Needs.{needs}
+use Rattle.grid.proofs.corner_spelling.spell_in.Statement.{statement}
+use Rattle.grid.proofs.corner_spelling.spell_in.Tie as tie
+
+fill-rows-requires : tie.Need-fill-rows-requires
+fill-rows-requires c κs =
+    c .before .before .before .before .before .pre .0
+
+enum-known-w : tie.Need-enum-known-w
+enum-known-w c = search needs
+
+enum-told : tie.Need-enum-told
+enum-told c = search needs
+
+same-length : tie.Need-same-length
+same-length c = search needs
+
+returns : tie.Need-returns
+returns c =
+    for-over (cornerPlan (c .before .before .before .before .before .before .before .before .before .before .args .c)) _ _ _ _ _ (cap-over _ (sym (c .before .before .before .before .fill-rows .ensures .answer) ∙ c .enum-told .given .1))
+
+all-below-requires : tie.Need-all-below-requires
+all-below-requires c κs = search needs
+
+same-length-2 : tie.Need-same-length-2
+same-length-2 c = search needs
+
+returns-2 : tie.Need-returns-2
+returns-2 c =
+    for-beyond (cornerPlan (c .before .before .before .before .before .before .before .before .before .before .before .before .before .args .c)) _ _ _ _ _ (cap-count _ _ (sym (c .before .before .before .before .before .before .before .fill-rows .ensures .answer) ∙ c .before .before .before .w .given .1) .1) (below-told (c .before .before .before .before .before .before .before .before .before .before .before .before .before .args .numbers .now) _ _ _ (sym (cap-count _ _ (sym (c .before .before .before .before .before .before .before .fill-rows .ensures .answer) ∙ c .before .before .before .w .given .1) .0)) (c .before .all-below .ensures) ∙ not-true _ (c .if1 .taken))
+
+spell-all-requires : tie.Need-spell-all-requires
+spell-all-requires c κs =
+    (record { ready = ready-len (c .before .before .before .before .before .before .before .before .before .before .before .before .before .before .before .before .pre .0 .ready) (search needs); solid = c .before .before .before .before .before .before .before .before .before .before .fill-rows .ensures .solid (count-over (c .before .before .before .before .before .before .w .given .1)); fits = cap-count _ _ (sym (c .before .before .before .before .before .before .before .before .before .before .fill-rows .ensures .answer) ∙ c .before .before .before .before .before .before .w .given .1) .1 }, below-told (c .before .before .before .before .before .before .before .before .before .before .before .before .before .before .before .before .args .numbers .now) _ _ _ (sym (cap-count _ _ (sym (c .before .before .before .before .before .before .before .before .before .before .fill-rows .ensures .answer) ∙ c .before .before .before .before .before .before .w .given .1) .0)) (c .before .before .before .before .all-below .ensures) ∙ not-false _ (c .before .before .before .if1 .left), c .before .before .before .before .before .before .before .before .before .before .before .before .before .before .before .before .pre .1)
+
+same-length-3 : tie.Need-same-length-3
+same-length-3 c = search needs
+
+same-length-4 : tie.Need-same-length-4
+same-length-4 c = search needs
+
+same-length-5 : tie.Need-same-length-5
+same-length-5 c = search needs
+
+returns-3 : tie.Need-returns-3
+returns-3 c =
+    for-all (cornerPlan (c .before .before .before .before .before .before .before .before .before .before .before .before .before .before .before .before .before .before .before .before .before .args .c)) _ _ _ _ _ _ _ _ (cap-count _ _ (sym (c .before .before .before .before .before .before .before .before .before .before .before .before .before .before .before .fill-rows .ensures .answer) ∙ c .before .before .before .before .before .before .before .before .before .before .before .w .given .1) .1) (below-told (c .before .before .before .before .before .before .before .before .before .before .before .before .before .before .before .before .before .before .before .before .before .args .numbers .now) _ _ _ (sym (cap-count _ _ (sym (c .before .before .before .before .before .before .before .before .before .before .before .before .before .before .before .fill-rows .ensures .answer) ∙ c .before .before .before .before .before .before .before .before .before .before .before .w .given .1) .0)) (c .before .before .before .before .before .before .before .before .before .all-below .ensures) ∙ not-false _ (c .before .before .before .before .before .before .before .before .if1 .left)) (c .before .before .before .before .spell-all .ensures)
+
+pub spell-in-spec : {M : Type 1} → statement M
+spell-in-spec =
+    tie.close
+    (tie.spec
+    fill-rows-requires
+    enum-known-w
+    enum-told
+    same-length
+    returns
+    all-below-requires
+    same-length-2
+    returns-2
+    spell-all-requires
+    same-length-3
+    same-length-4
+    same-length-5
+    returns-3)
