@@ -27,10 +27,10 @@ use Rattle.grid.specs.declared.Answer.the-variants.{Over}
 use Rattle.grid.specs.Form.{W, via}
 use Rattle.grid.specs.Cells.{strideOf, place}
 use Rattle.grid.specs.declared.plan.Plan as plans
-use Rattle.grid.specs.Table.{Slopes, Rises, Corner, Ends, Table}
-use Rattle.grid.specs.Plans.{strideFor, CorneredFor, PreparedFor, walksFor}
+use Rattle.grid.specs.Table.{Slopes, Ends, Table}
+use Rattle.grid.specs.Plans.{strideFor, PreparedFor, walksFor}
 use Rattle.grid.specs.Filling.{Filled}
-use Rattle.grid.specs.Rows.{Done, Rows, RowsFor, Rowing, Risen}
+use Rattle.grid.specs.Rows.{Rises, Corner, CorneredFor, Done, Rows, RowsFor, Rowing, Risen}
 use Rattle.grid.proofs.Walls.{wall-level}
 use Rattle.grid.proofs.Laws.{via-left, via-under, via-in, W-start, W-step, cap-ge}
 use Rattle.grid.proofs.Counts.{pos-of, W-high}

@@ -71,18 +71,18 @@ front-next g ns steps ends i at s t so n part l w = lining-next g ns steps ends 
 pub below-told : (ns : List ℕ) (w c : ℕ) (t : Bool) → c ≡ w → t ≡ allBelow c ns → allBelow w ns ≡ t
 below-told ns w c t e q = sym (q ∙ ap (λ (z : ℕ). allBelow z ns) e)
 
-module _ (p : Plan) (sa sc ns steps ends : List ℕ) where
-  pub for-over : 2 ^ 64 ≤ walksFor p sa sc → BuildsFor p sa sc ns steps ends steps ends (Refused 4)
+module _ (corner : Bool) (p : Plan) (sa sc ns steps ends : List ℕ) where
+  pub for-over : 2 ^ 64 ≤ walksFor p sa sc → BuildsFor corner p sa sc ns steps ends steps ends (Refused 4)
   unfolding refusalNumber
-  for-over l = lined-refused (edgesFor (p .corner) (p .k) (p .f) sa sc (p .ex) (p .ey) ns) over 4 steps ends (rw (lt-leb (walksFor p sa sc) most (omega arith)) refl) refl
+  for-over l = lined-refused (edgesFor corner (p .k) (p .f) sa sc (p .ex) (p .ey) ns) over 4 steps ends (rw (lt-leb (walksFor p sa sc) most (omega arith)) refl) refl
 
-  pub for-beyond : walksFor p sa sc < 2 ^ 64 → allBelow (walksFor p sa sc) ns ≡ false → BuildsFor p sa sc ns steps ends steps ends (Refused 6)
+  pub for-beyond : walksFor p sa sc < 2 ^ 64 → allBelow (walksFor p sa sc) ns ≡ false → BuildsFor corner p sa sc ns steps ends steps ends (Refused 6)
   unfolding refusalNumber
   for-beyond l e =
-      lined-refused (edgesFor (p .corner) (p .k) (p .f) sa sc (p .ex) (p .ey) ns) beyond 6 steps ends (rw (le-leb (walksFor p sa sc) most (omega arith), e) refl) refl
+      lined-refused (edgesFor corner (p .k) (p .f) sa sc (p .ex) (p .ey) ns) beyond 6 steps ends (rw (le-leb (walksFor p sa sc) most (omega arith), e) refl) refl
 
   pub for-all : (n : ℕ) (s t : List ℕ) → walksFor p sa sc < 2 ^ 64 → allBelow (walksFor p sa sc) ns ≡ true
-      → ListsFor p sa sc ns steps ends s t n → BuildsFor p sa sc ns steps ends s t (Length n)
+      → ListsFor corner p sa sc ns steps ends s t n → BuildsFor corner p sa sc ns steps ends s t (Length n)
   for-all n s t l e w = rw (le-leb (walksFor p sa sc) most (omega arith), e) w
 
 -- ---- by the job's count
@@ -112,9 +112,9 @@ same-edges g h c [] e l = refl
 same-edges g h c (n ∷ ns) e l =
     ap (λ (z : List ℕ). z ∷ map g ns) (e n (l 0 (omega arith))) ∙ ap (λ (z : List (List ℕ)). h n ∷ z) (same-edges g h c ns e (λ i b. l (suc i) (omega arith)))
 
-module _ (J : rules.Job) (s : Shape) (r : InRange J) (f : Fits J s) {corner : Bool} {p : Plan} (po : PlanOf corner s p) (c : isCorner J ≡ corner) (g : Grids J) where
-  plan-edges : (ns : List ℕ) → edgesFor (p .corner) (p .k) (p .f) (s .sa) (s .sc) (p .ex) (p .ey) ns ≡ edgesOf J ns
-  plan-edges ns = rw (po .corner-is, ← c, po .k-is, po .f-is, po .ex-is, po .ey-is, same) (go (allBelow (countOf J) ns) refl)
+module _ (J : rules.Job) (s : Shape) (r : InRange J) (f : Fits J s) {corner : Bool} {p : Plan} (po : PlanOf s p) (c : isCorner J ≡ corner) (g : Grids J) where
+  plan-edges : (ns : List ℕ) → edgesFor corner (p .k) (p .f) (s .sa) (s .sc) (p .ex) (p .ey) ns ≡ edgesOf J ns
+  plan-edges ns = rw (← c, po .k-is, po .f-is, po .ex-is, po .ey-is, same) (go (allBelow (countOf J) ns) refl)
     where
       same : W (s .k) (s .f) (s .sa) (s .sc) (s .ex) (s .ey) ≡ countOf J
       same = shape-count J s r f
@@ -129,7 +129,7 @@ module _ (J : rules.Job) (s : Shape) (r : InRange J) (f : Fits J s) {corner : Bo
           (same-edges by (edgeOf J) (countOf J) ns (λ q l. shape-spells J s g r f q (omega (arith, same))) (below-at (countOf J) ns (holds e)))
       go false e = refl
 
-  pub plan-builds : (ns steps ends : List ℕ) (x : Built) (t u : List ℕ) → BuildsFor p (s .sa) (s .sc) ns steps ends t u x → BuildsOf J ns steps ends t u x
+  pub plan-builds : (ns steps ends : List ℕ) (x : Built) (t u : List ℕ) → BuildsFor corner p (s .sa) (s .sc) ns steps ends t u x → BuildsOf J ns steps ends t u x
   plan-builds ns steps ends x t u l = rw (plan-edges ns) at l
 
 -- ---- the ways through a block

@@ -160,13 +160,13 @@ pub record Taken (c : Corner) (val e : List ℕ) (acc x y cell i a u o v : ℕ) 
   pub fewer : i - 1 < i
   pub far : o ≤ cell
   pub fits : acc + v < 2 ^ 64
-  pub next : {t : ℕ} → t ≡ acc + v → Walking (cornerPlan c) (cornerRight c) (cornerUp c) (cornerBack c) val e t (x - a) (y - u) (cell - o) (i - 1)
+  pub next : {t : ℕ} → t ≡ acc + v → Walking true (cornerPlan c) (cornerRight c) (cornerUp c) (cornerBack c) val e t (x - a) (y - u) (cell - o) (i - 1)
 
 pub read-start : (c : Corner) {val e : List ℕ} → CornerFull c val → {y cell : ℕ} → y ≡ cornerPlan c .ey → cell ≡ cornerEnd c
-    → Walking (cornerPlan c) (cornerRight c) (cornerUp c) (cornerBack c) val e 0 (c .n + c .m) y cell (length e)
+    → Walking true (cornerPlan c) (cornerRight c) (cornerUp c) (cornerBack c) val e 0 (c .n + c .m) y cell (length e)
 read-start c fu ey ep = rw ey (walking-start fu ep)
 
-module _ (c : Corner) {val e : List ℕ} {acc x y cell i : ℕ} (w : Walking (cornerPlan c) (cornerRight c) (cornerUp c) (cornerBack c) val e acc x y cell i) (h : 0 < i) where
+module _ (c : Corner) {val e : List ℕ} {acc x y cell i : ℕ} (w : Walking true (cornerPlan c) (cornerRight c) (cornerUp c) (cornerBack c) val e acc x y cell i) (h : 0 < i) where
   level : T (wall 0 x y)
   level = wall-level 0 x y refl
 
@@ -176,7 +176,7 @@ module _ (c : Corner) {val e : List ℕ} {acc x y cell i : ℕ} (w : Walking (co
     | no b ↦ not-letter w h refl level (omega arith)
   ]
 
-  taken : {l : ℕ} → Stepped (cornerPlan c) (cornerRight c) (cornerUp c) (cornerBack c) val e acc x y cell i l → {a u o v : ℕ}
+  taken : {l : ℕ} → Stepped true (cornerPlan c) (cornerRight c) (cornerUp c) (cornerBack c) val e acc x y cell i l → {a u o v : ℕ}
       → a ≡ getD (cornerRight c) l 0 → u ≡ getD (cornerUp c) l 0 → o ≡ getD (cornerBack c) l 0 → v ≡ sum (steps-via c x y) l → Taken c val e acc x y cell i a u o v
   taken s ea eu eo ev = record { fewer = s .fewer; far = omega (arith, eo, s .far); fits = s .fits ev; next = λ et. step-as s ea eu eo ev et }
 
@@ -195,7 +195,7 @@ module _ (c : Corner) {val e : List ℕ} {acc x y cell i : ℕ} (w : Walking (co
         not-east o = not-up w h (place-e true _ refl n b) level px (omega (arith, eu))
 
         module _ (l : u ≤ y) {p o : ℕ} (ep : p ≡ getD (cornerBack c) 0 0) (eo : o ≡ getD (cornerBack c) 1 0) where
-          east-step : Stepped (cornerPlan c) (cornerRight c) (cornerUp c) (cornerBack c) val e acc x y cell i 1
+          east-step : Stepped true (cornerPlan c) (cornerRight c) (cornerUp c) (cornerBack c) val e acc x y cell i 1
           east-step = stepped w h (place-e true _ refl n b) level (omega (arith, two-there (c .diagonal))) px (omega (arith, eu))
 
           pub east-near : Near c val x y cell p o
@@ -221,7 +221,7 @@ module _ (c : Corner) {val e : List ℕ} {acc x y cell i : ℕ} (w : Walking (co
               not-under o = not-up w h (place-d true _ refl n m b) level (rw d qx) (rw d o)
 
               module _ (qy : 1 ≤ y) {p o : ℕ} (ep : p ≡ getD (cornerBack c) 0 0) (eo : o ≡ getD (cornerBack c) 1 0) where
-                across-step : Stepped (cornerPlan c) (cornerRight c) (cornerUp c) (cornerBack c) val e acc x y cell i 2
+                across-step : Stepped true (cornerPlan c) (cornerRight c) (cornerUp c) (cornerBack c) val e acc x y cell i 2
                 across-step = stepped w h (place-d true _ refl n m b) level (rw d (omega arith)) (rw d qx) (rw d qy)
 
                 pub across-near : Near c val x y cell p o
@@ -244,7 +244,7 @@ pub record Given (c : Corner) (val : List ℕ) (r : ℕ) (buf : List ℕ) (n o x
 
 pub record Spelt (c : Corner) (val : List ℕ) (r : ℕ) (buf₀ buf : List ℕ) (x cell left s : ℕ) : Type 0 where
   pub y : ℕ
-  pub writing : Writing (cornerPlan c) (cornerRight c) (cornerUp c) (cornerBack c) val r buf₀ buf x y cell left s
+  pub writing : Writing true (cornerPlan c) (cornerRight c) (cornerUp c) (cornerBack c) val r buf₀ buf x y cell left s
 
 pub record Put (c : Corner) (val : List ℕ) (r : ℕ) (buf₀ buf : List ℕ) (x cell s g a o rest : ℕ) : Type 0 where
   pub least : 1 ≤ s

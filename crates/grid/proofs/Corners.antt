@@ -41,8 +41,9 @@ use Rattle.corners.proofs.Ends.{ends-over}
 use Rattle.grid.specs.Form.{Form, spot}
 use Rattle.grid.specs.Shapes.{Grids, Sound, isCorner, Fits}
 use Rattle.grid.specs.Shapes.Shows.{slid, mirrored}
-use Rattle.grid.specs.Table.{Offsets, Rises, Cornered}
-use Rattle.grid.specs.Plans.{strideFor, cellsFor, CorneredFor, Planned, PlanOf}
+use Rattle.grid.specs.Table.{Offsets}
+use Rattle.grid.specs.Plans.{strideFor, cellsFor, Planned, PlanOf}
+use Rattle.grid.specs.Rows.{Rises, Cornered, CorneredFor}
 use Rattle.grid.specs.Calls.{CountsOf, NumbersOf, BuildsOf}
 use Rattle.grid.specs.Corners.{cornerOf, cornerJob, cornerPlan, cornerRight, cornerUp, cornerBack, cornerNumber, CornerReady, CornerBuilds, Within}
 use Rattle.grid.specs.declared.corner.Corner.{Corner}
@@ -274,11 +275,10 @@ module _ (c : Corner) where
       steep = record { le = omega arith; all = λ i h q. omega (arith, form .low i h, form-pos form i h) };
       deep = record { le = omega arith; all = λ i h q. form .low i h };
       fewer = record { gone = λ e i h q. omega (arith, form .ex-le, form .away i (omega (arith, many (c .diagonal))) q) };
-      cornered = λ e. corner-steps;
     }
 
-    plan-of : PlanOf true (cornerShape c) (cornerPlan c)
-    plan-of = record { planned = planned; corner-is = refl; k-is = refl; f-is = refl; ex-is = refl; ey-is = refl }
+    plan-of : PlanOf (cornerShape c) (cornerPlan c)
+    plan-of = record { planned = planned; k-is = refl; f-is = refl; ex-is = refl; ey-is = refl }
 
 module _ (c : Corner) {y : ℕ} (ey : y ≡ cornerPlan c .ey) where
   pub corner-over : 33 < y → 2 ^ 64 ≤ countOf (cornerJob c)

@@ -122,15 +122,15 @@ pub number-none : (J : rules.Job) (e : List ℕ) → countOf J ≡ 0 → (Valid 
 unfolding refusalNumber Valid
 number-none J e z n = rw (le-leb (countOf J) most (omega arith), is-false (walks J origin e) n) refl
 
-module _ (J : rules.Job) (s : Shape) (r : InRange J) (f : Fits J s) {corner : Bool} {p : Plan} (po : PlanOf corner s p) where
+module _ (J : rules.Job) (s : Shape) (r : InRange J) (f : Fits J s) {p : Plan} (po : PlanOf s p) where
   pub plan-count : walksFor p (s .sa) (s .sc) ≡ countOf J
   plan-count = rw (po .k-is, po .f-is, po .ex-is, po .ey-is) (shape-count J s r f)
 
-  -- the table's answer is the job's, where the plan has the job's letters
-  pub plan-number : isCorner J ≡ corner → Grids J → (e : List ℕ) (x : Numbered) → numberSays x ≡ reply (numberFor p (s .sa) (s .sc) e) → NumbersOf J e x
+  -- the table's answer is the job's, in the job's letters
+  pub plan-number : {corner : Bool} → isCorner J ≡ corner → Grids J → (e : List ℕ) (x : Numbered) → numberSays x ≡ reply (numberFor corner p (s .sa) (s .sc) e) → NumbersOf J e x
   unfolding tableNumber
   plan-number c g e x h =
-      h ∙ rw (po .corner-is, ← c, po .k-is, po .f-is, po .ex-is, po .ey-is, shape-count J s r f, shape-edge J s g r f e) (ap reply (go (walks J origin e) refl))
+      h ∙ rw (← c, po .k-is, po .f-is, po .ex-is, po .ey-is, shape-count J s r f, shape-edge J s g r f e) (ap reply (go (walks J origin e) refl))
     where
       n : ℕ
       n = edges.numberOf (isCorner J) (s .k) (s .f) (s .sa) (s .sc) (s .ex) (s .ey) e

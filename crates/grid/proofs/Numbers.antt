@@ -136,39 +136,39 @@ module _ {k f : ℕ} {sa sc off val : List ℕ} {x y p : ℕ} (rd : Reads k f sa
 -- ---- the loop of `read`: the letters from i on led back from the end to (x, y). What they stand for and all walks to (x, y) are no more
 -- than the walks to the end, so that the sum fits, be the bytes an edge or not
 
-pub record Walking (p : plans.Plan) (sa sc off val e : List ℕ) (acc x y cell i : ℕ) : Type 0 where
+pub record Walking (corner : Bool) (p : plans.Plan) (sa sc off val e : List ℕ) (acc x y cell i : ℕ) : Type 0 where
   pub full : Full p sa sc off val
   pub i-le : i ≤ length e
   pub stand : Stand p sa sc x y cell
   pub under : acc + W (p .k) (p .f) sa sc x y ≤ walksFor p sa sc
-  pub same : ok (p .corner) (p .k) (p .f) sa sc e i x y ≡ validFor p sa sc e
-  pub total : acc + num (p .corner) (p .k) (p .f) sa sc e i x y ≡ rankFor p sa sc e
+  pub same : ok corner (p .k) (p .f) sa sc e i x y ≡ validFor corner p sa sc e
+  pub total : acc + num corner (p .k) (p .f) sa sc e i x y ≡ rankFor corner p sa sc e
 
-pub record Stepped (p : plans.Plan) (sa sc off val e : List ℕ) (acc x y cell i l : ℕ) : Type 0 where
+pub record Stepped (corner : Bool) (p : plans.Plan) (sa sc off val e : List ℕ) (acc x y cell i l : ℕ) : Type 0 where
   pub fewer : i - 1 < i
   pub below : l ≤ p .k
   pub reads : Reads (p .k) (p .f) sa sc off val x y cell
   pub far : getD off l 0 ≤ cell
   pub fits : {v : ℕ} → v ≡ sum (via (p .k) (p .f) sa sc x y) l → acc + v < 2 ^ 64
-  pub next : {v : ℕ} → v ≡ sum (via (p .k) (p .f) sa sc x y) l → Walking p sa sc off val e (acc + v) (x - getD sa l 0) (y - getD sc l 0) (cell - getD off l 0) (i - 1)
+  pub next : {v : ℕ} → v ≡ sum (via (p .k) (p .f) sa sc x y) l → Walking corner p sa sc off val e (acc + v) (x - getD sa l 0) (y - getD sc l 0) (cell - getD off l 0) (i - 1)
 
 -- the same by numbers that the code has at hand
-pub step-as : {p : plans.Plan} {sa sc off val e : List ℕ} {acc x y cell i l : ℕ} → Stepped p sa sc off val e acc x y cell i l → {a u o v t : ℕ}
-    → a ≡ getD sa l 0 → u ≡ getD sc l 0 → o ≡ getD off l 0 → v ≡ sum (via (p .k) (p .f) sa sc x y) l → t ≡ acc + v → Walking p sa sc off val e t (x - a) (y - u) (cell - o) (i - 1)
+pub step-as : {corner : Bool} {p : plans.Plan} {sa sc off val e : List ℕ} {acc x y cell i l : ℕ} → Stepped corner p sa sc off val e acc x y cell i l → {a u o v t : ℕ}
+    → a ≡ getD sa l 0 → u ≡ getD sc l 0 → o ≡ getD off l 0 → v ≡ sum (via (p .k) (p .f) sa sc x y) l → t ≡ acc + v → Walking corner p sa sc off val e t (x - a) (y - u) (cell - o) (i - 1)
 step-as s ea eu eo ev et = rw (et, ea, eu, eo) (s .next ev)
 
-module _ {p : plans.Plan} {sa sc off val e : List ℕ} where
-  pub walking-start : Full p sa sc off val → {cell : ℕ} → cell ≡ place (p .m) (p .ey) (p .ex) (p .ey) → Walking p sa sc off val e 0 (p .ex) (p .ey) cell (length e)
+module _ {corner : Bool} {p : plans.Plan} {sa sc off val e : List ℕ} where
+  pub walking-start : Full p sa sc off val → {cell : ℕ} → cell ≡ place (p .m) (p .ey) (p .ex) (p .ey) → Walking corner p sa sc off val e 0 (p .ex) (p .ey) cell (length e)
   walking-start fu ep = record {
     full = fu;
     i-le = omega arith;
     stand = record { end = omega arith; ends = (omega arith, omega arith); at = ep; fits = fu .fits };
     under = omega arith;
-    same = ok-all (p .corner) (p .k) (p .f) sa sc e (p .ex) (p .ey);
-    total = omega (arith, num-all (p .corner) (p .k) (p .f) sa sc e (p .ex) (p .ey));
+    same = ok-all corner (p .k) (p .f) sa sc e (p .ex) (p .ey);
+    total = omega (arith, num-all corner (p .k) (p .f) sa sc e (p .ex) (p .ey));
   }
 
-  module _ {acc x y cell i : ℕ} (w : Walking p sa sc off val e acc x y cell i) where
+  module _ {acc x y cell i : ℕ} (w : Walking corner p sa sc off val e acc x y cell i) where
     pub last-in : 0 < i → i - 1 < length e
     last-in h = omega (arith, w .i-le)
 
@@ -181,27 +181,27 @@ module _ {p : plans.Plan} {sa sc off val e : List ℕ} where
     pub step-byte : {l : ℕ} → l < p .k → l * 8 < 2 ^ 64
     step-byte b = omega (arith, w .full .ready .slopes .most)
 
-    no-edge : ok (p .corner) (p .k) (p .f) sa sc e i x y ≡ false → refusal 5 ≡ reply (numberFor p sa sc e)
-    no-edge o = table-not p sa sc e (w .full .fits) (sym (w .same) ∙ o)
+    no-edge : ok corner (p .k) (p .f) sa sc e i x y ≡ false → refusal 5 ≡ reply (numberFor corner p sa sc e)
+    no-edge o = table-not corner p sa sc e (w .full .fits) (sym (w .same) ∙ o)
 
-    module _ (h : 0 < i) {l : ℕ} (q : l ≡ placeOf (p .corner) (getD e (i - 1) 0)) where
+    module _ (h : 0 < i) {l : ℕ} (q : l ≡ placeOf corner (getD e (i - 1) 0)) where
       pos : (j : ℕ) → j < p .k → 1 ≤ getD sa j 0
       pos = pos-of (w .full .ready .slopes)
 
-      pub not-inside : wall (p .f) x y ≡ false → refusal 5 ≡ reply (numberFor p sa sc e)
-      not-inside o = no-edge (ok-out (p .corner) (p .k) (p .f) sa sc e pos i x y l h q (λ t. subst T o t))
+      pub not-inside : wall (p .f) x y ≡ false → refusal 5 ≡ reply (numberFor corner p sa sc e)
+      not-inside o = no-edge (ok-out corner (p .k) (p .f) sa sc e pos i x y l h q (λ t. subst T o t))
 
       module _ (n : T (wall (p .f) x y)) where
-        pub not-letter : p .k ≤ l → refusal 5 ≡ reply (numberFor p sa sc e)
-        not-letter o = no-edge (ok-no-letter (p .corner) (p .k) (p .f) sa sc e pos i x y l h q n o)
+        pub not-letter : p .k ≤ l → refusal 5 ≡ reply (numberFor corner p sa sc e)
+        not-letter o = no-edge (ok-no-letter corner (p .k) (p .f) sa sc e pos i x y l h q n o)
 
-        pub not-right : x < getD sa l 0 → refusal 5 ≡ reply (numberFor p sa sc e)
-        not-right o = no-edge (ok-left (p .corner) (p .k) (p .f) sa sc e pos i x y l h q n o)
+        pub not-right : x < getD sa l 0 → refusal 5 ≡ reply (numberFor corner p sa sc e)
+        not-right o = no-edge (ok-left corner (p .k) (p .f) sa sc e pos i x y l h q n o)
 
-        pub not-up : getD sa l 0 ≤ x → y < getD sc l 0 → refusal 5 ≡ reply (numberFor p sa sc e)
-        not-up a o = no-edge (ok-under (p .corner) (p .k) (p .f) sa sc e pos i x y l h q n a o)
+        pub not-up : getD sa l 0 ≤ x → y < getD sc l 0 → refusal 5 ≡ reply (numberFor corner p sa sc e)
+        not-up a o = no-edge (ok-under corner (p .k) (p .f) sa sc e pos i x y l h q n a o)
 
-        pub stepped : l < p .k → getD sa l 0 ≤ x → getD sc l 0 ≤ y → Stepped p sa sc off val e acc x y cell i l
+        pub stepped : l < p .k → getD sa l 0 ≤ x → getD sc l 0 ≤ y → Stepped corner p sa sc off val e acc x y cell i l
         stepped b a c = record {
           fewer = omega arith;
           below = omega arith;
@@ -213,8 +213,8 @@ module _ {p : plans.Plan} {sa sc off val e : List ℕ} where
             i-le = omega (arith, w .i-le);
             stand = stand-back (w .full) (w .stand) px n l _ _ _ b refl refl refl a c;
             under = omega (arith, part, via-in (p .k) (p .f) sa sc x y l a c, w .under);
-            same = sym (ok-step (p .corner) (p .k) (p .f) sa sc e pos i x y l h q n b a c) ∙ w .same;
-            total = omega (arith, w .total, num-step (p .corner) (p .k) (p .f) sa sc e pos i x y l h q n a c);
+            same = sym (ok-step corner (p .k) (p .f) sa sc e pos i x y l h q n b a c) ∙ w .same;
+            total = omega (arith, w .total, num-step corner (p .k) (p .f) sa sc e pos i x y l h q n a c);
           };
         }
           where
@@ -232,11 +232,11 @@ module _ {p : plans.Plan} {sa sc off val e : List ℕ} where
     ends-fit = omega (arith, w .stand .end, w .stand .ends .0, w .full .ready .sizes .ex-le, w .full .ready .sizes .ey-le)
 
     module _ (h : i ≤ 0) where
-      pub not-start : 0 < x + y → refusal 5 ≡ reply (numberFor p sa sc e)
-      not-start o = no-edge (sym (ok-end (p .corner) (p .k) (p .f) sa sc e i x y h) ∙ ne-eqb (x + y) 0 (λ q. omega arith))
+      pub not-start : 0 < x + y → refusal 5 ≡ reply (numberFor corner p sa sc e)
+      not-start o = no-edge (sym (ok-end corner (p .k) (p .f) sa sc e i x y h) ∙ ne-eqb (x + y) 0 (λ q. omega arith))
 
-      pub walking-end : x + y ≤ 0 → value acc ≡ reply (numberFor p sa sc e)
+      pub walking-end : x + y ≤ 0 → value acc ≡ reply (numberFor corner p sa sc e)
       walking-end o =
-          table-number p sa sc e acc (w .full .fits)
-          (sym (w .same) ∙ sym (ok-end (p .corner) (p .k) (p .f) sa sc e i x y h) ∙ eq-eqb (x + y) 0 (omega arith))
-          (omega (arith, w .total, num-none (p .corner) (p .k) (p .f) sa sc e i x y h))
+          table-number corner p sa sc e acc (w .full .fits)
+          (sym (w .same) ∙ sym (ok-end corner (p .k) (p .f) sa sc e i x y h) ∙ eq-eqb (x + y) 0 (omega arith))
+          (omega (arith, w .total, num-none corner (p .k) (p .f) sa sc e i x y h))

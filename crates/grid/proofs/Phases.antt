@@ -35,8 +35,8 @@ use Rattle.grid.proofs.Laws.{W-start, mul-bound, cap-lt, cell-zero}
 use Rattle.grid.proofs.Counts.{pos-of, W-all}
 use Rattle.grid.proofs.Columns.{source-left, source-in, rows, grow, one-more, brings, sheet-next, sheet-same}
 
-pub ready-len : {corner few : Bool} {k f : ℕ} {sa sc off : List ℕ} {hi m ex ey size size′ : ℕ} → Prepared corner few k f sa sc off hi m ex ey size → size′ ≡ size → Prepared corner few k f sa sc off hi m ex ey size′
-ready-len r e = record { sizes = r .sizes; slopes = r .slopes; offs = r .offs; fewer = r .fewer; cornered = r .cornered; room = rw e (r .room) }
+pub ready-len : {few : Bool} {k f : ℕ} {sa sc off : List ℕ} {hi m ex ey size size′ : ℕ} → Prepared few k f sa sc off hi m ex ey size → size′ ≡ size → Prepared few k f sa sc off hi m ex ey size′
+ready-len r e = record { sizes = r .sizes; slopes = r .slopes; offs = r .offs; fewer = r .fewer; room = rw e (r .room) }
 
 pub place-sum : (m ey x y : ℕ) → (x + 1) * (m + ey + 1) + m + y ≡ place m ey x y
 place-sum m ey x y = omega arith
@@ -212,7 +212,7 @@ module _ {p : Plan} {sa sc : List ℕ} {val : List ℕ} {x : ℕ} (g : Got p sa 
     solid = λ n. record { ov = replicate 3712 0; flags = rw e at (resume-cells val (g .table) fits) };
   }
 
-module _ {corner few : Bool} {k f : ℕ} {sa sc off : List ℕ} {hi m ex ey size : ℕ} (r : Prepared corner few k f sa sc off hi m ex ey size) where
+module _ {few : Bool} {k f : ℕ} {sa sc off : List ℕ} {hi m ex ey size : ℕ} (r : Prepared few k f sa sc off hi m ex ey size) where
   pub end-cells : (ex + 1) * strideOf m ey + strideOf m ey ≤ 3712
   end-cells = rw (last-row ex (strideOf m ey)) (r .sizes .cells)
 

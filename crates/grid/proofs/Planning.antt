@@ -18,7 +18,7 @@ module _ {sa sc : List ℕ} {p : Plan} (pl : Planned sa sc p) where
 
   module _ {off : List ℕ} (of : Offsets sa sc off (strideFor p)) where
     pub prepared-for : {cells : ℕ} → cells ≡ cellsFor p → (size : ℕ) → cells ≤ size → PreparedFor p sa sc off size
-    prepared-for e size h = prepared (pl .form) (pl .steep) (pl .deep) (pl .fewer) (pl .cornered) of size (omega arith)
+    prepared-for e size h = prepared (pl .form) (pl .steep) (pl .deep) (pl .fewer) of size (omega arith)
 
     pub sizes-for : SizesFor p
     sizes-for = prepared-for refl (cellsFor p) (omega arith) .sizes

@@ -21,7 +21,7 @@ use lib.Seq.{getD-set-same, getD-set-other}
 use Rattle.howmany.proofs.Cases.{eight}
 use Rattle.grid.specs.Form.{Form}
 use Rattle.grid.specs.Cells.{strideOf}
-use Rattle.grid.specs.Table.{Steepest, Deepest, Few, Cornered, Offsets, Prepared}
+use Rattle.grid.specs.Table.{Steepest, Deepest, Few, Offsets, Prepared}
 use Rattle.grid.proofs.Laws.{mul-bound}
 
 pub slope-by : (a b c r : ℕ) → a ≡ b → 6 * c ≤ r * b → 6 * c ≤ r * a
@@ -82,8 +82,8 @@ module _ {k f : ℕ} {sa sc : List ℕ} {top ex ey : ℕ} (fo : Form k f sa sc t
     pub cells-le : (ex + 2) * strideOf m ey ≤ 3712
     cells-le = le-trans (mul-le-mul-left (ex + 2) (omega (arith, de .le))) (fo .cells)
 
-    pub prepared : {corner few : Bool} {off : List ℕ} → Few few sa ex → (corner ≡ true → Cornered k f sa sc hi m ex ey) → Offsets sa sc off (strideOf m ey) → (size : ℕ) → (ex + 2) * strideOf m ey ≤ size → Prepared corner few k f sa sc off hi m ex ey size
-    prepared fe co of size h = record {
+    pub prepared : {few : Bool} {off : List ℕ} → Few few sa ex → Offsets sa sc off (strideOf m ey) → (size : ℕ) → (ex + 2) * strideOf m ey ≤ size → Prepared few k f sa sc off hi m ex ey size
+    prepared fe of size h = record {
       sizes = record {
         f-le = omega (arith, fo .f-le);
         hi-le = omega (arith, st .le);
@@ -101,6 +101,5 @@ module _ {k f : ℕ} {sa sc : List ℕ} {top ex ey : ℕ} (fo : Form k f sa sc t
       };
       offs = of;
       fewer = fe;
-      cornered = co;
       room = h;
     }

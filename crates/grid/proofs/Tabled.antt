@@ -4,7 +4,7 @@
 --   table-not       it fits, and the bytes are no edge
 --   table-number    it fits, and they are one
 use mathlib.Core.Path.{_≡_, refl, ap}
-use mathlib.Core.Bool.{true, false}
+use mathlib.Core.Bool.{Bool, true, false}
 use mathlib.Core.List.{List}
 use Prim.Native.Nat.{ℕ, _^_, _≤_, _<_}
 use native.Mathlib.Omega.{arith}
@@ -17,15 +17,15 @@ use Rattle.grid.specs.declared.plan.Plan.{Plan}
 use Rattle.grid.specs.Numbering.{tableNumber}
 use Rattle.grid.specs.Plans.{walksFor, numberFor, validFor, rankFor}
 
-module _ (p : Plan) (sa sc e : List ℕ) where
-  pub table-over : 2 ^ 64 ≤ walksFor p sa sc → refusal 4 ≡ reply (numberFor p sa sc e)
+module _ (corner : Bool) (p : Plan) (sa sc e : List ℕ) where
+  pub table-over : 2 ^ 64 ≤ walksFor p sa sc → refusal 4 ≡ reply (numberFor corner p sa sc e)
   unfolding tableNumber refusalNumber
   table-over l = rw (lt-leb (walksFor p sa sc) most (omega arith)) refl
 
-  pub table-not : walksFor p sa sc < 2 ^ 64 → validFor p sa sc e ≡ false → refusal 5 ≡ reply (numberFor p sa sc e)
+  pub table-not : walksFor p sa sc < 2 ^ 64 → validFor corner p sa sc e ≡ false → refusal 5 ≡ reply (numberFor corner p sa sc e)
   unfolding tableNumber refusalNumber
   table-not l q = rw (le-leb (walksFor p sa sc) most (omega arith), q) refl
 
-  pub table-number : (v : ℕ) → walksFor p sa sc < 2 ^ 64 → validFor p sa sc e ≡ true → v ≡ rankFor p sa sc e → value v ≡ reply (numberFor p sa sc e)
+  pub table-number : (v : ℕ) → walksFor p sa sc < 2 ^ 64 → validFor corner p sa sc e ≡ true → v ≡ rankFor corner p sa sc e → value v ≡ reply (numberFor corner p sa sc e)
   unfolding tableNumber
   table-number v l q n = rw (le-leb (walksFor p sa sc) most (omega arith), q) (ap value n)

@@ -37,7 +37,6 @@ cornerJob c = pick (c .diagonal) (delannoy (c .n) (c .m)) (north-east (c .n) (c 
 -- no step is steeper than 1 (six times it is 6) or deeper than 1
 abbrev pub cornerPlan : Corner → Plan
 cornerPlan c = record {
-  corner = true;
   few = true;
   k = pick (c .diagonal) 3 2;
   f = 0;
@@ -84,13 +83,13 @@ abbrev pub cornerWalks : Corner → ℕ
 cornerWalks c = walksFor (cornerPlan c) (cornerRight c) (cornerUp c)
 
 abbrev pub cornerNumber : Corner → List ℕ → Answer ℕ
-cornerNumber c e = numberFor (cornerPlan c) (cornerRight c) (cornerUp c) e
+cornerNumber c e = numberFor true (cornerPlan c) (cornerRight c) (cornerUp c) e
 
 abbrev pub cornerEdge : Corner → ℕ → List ℕ
-cornerEdge c r = edgeFor (cornerPlan c) (cornerRight c) (cornerUp c) r
+cornerEdge c r = edgeFor true (cornerPlan c) (cornerRight c) (cornerUp c) r
 
 abbrev pub CornerLists : Corner → List ℕ → List ℕ → List ℕ → List ℕ → List ℕ → ℕ → Type 0
-CornerLists c ns steps ends after-steps after-ends at = ListsFor (cornerPlan c) (cornerRight c) (cornerUp c) ns steps ends after-steps after-ends at
+CornerLists c ns steps ends after-steps after-ends at = ListsFor true (cornerPlan c) (cornerRight c) (cornerUp c) ns steps ends after-steps after-ends at
 
 abbrev pub CornerBuilds : Corner → List ℕ → List ℕ → List ℕ → List ℕ → List ℕ → Built → Type 0
-CornerBuilds c ns steps ends after-steps after-ends r = BuildsFor (cornerPlan c) (cornerRight c) (cornerUp c) ns steps ends after-steps after-ends r
+CornerBuilds c ns steps ends after-steps after-ends r = BuildsFor true (cornerPlan c) (cornerRight c) (cornerUp c) ns steps ends after-steps after-ends r

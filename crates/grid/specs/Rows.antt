@@ -1,6 +1,9 @@
 -- A table filled row by row, where the steps are those of families 1 and 3: "L(n,m) = L(n,m-1) + L(n-1,m)" and "D(n,m) = D(n,m-1) +
 -- D(n-1,m) + D(n-1,m-1)", so along a row each cell is the one before it and what the row below brings, and a sum is kept in hand.
 --
+--   Rises a b       one of the two is 1, the other 0
+--   Corner three    the steps are (1,1) and (1,0), in either order, and (2,1) where three is true
+--   Cornered        such steps, so that hi is 6 and m is 1, for an end that they can reach; CorneredFor: by a plan
 --   Done y i u v    of row v the cell in column u is filled, when the rows below y are, and i cells of row y
 --   Rows .. y i     the cells that are filled are right, and every other one is 0; row v runs from column v to v + n
 --   RowsFor         the same by a plan
@@ -12,12 +15,34 @@ use mathlib.Core.Logic.{_⊎_}
 use mathlib.Core.Bool.{Bool, true, false}
 use mathlib.Core.List.{List}
 use Prim.Native.Nat.{ℕ, _+_, _-_, _^_, _≤_, _<_}
+use lib.Dec.{eqb}
 use lib.ListN.{length, getD}
+use Rattle.howmany.specs.Choose.{pick}
 use Rattle.grid.specs.Form.{W}
 use Rattle.grid.specs.Cells.{place}
 use Rattle.grid.specs.declared.plan.Plan.{Plan}
-use Rattle.grid.specs.Plans.{CorneredFor, PreparedFor, walksFor}
+use Rattle.grid.specs.Plans.{PreparedFor, walksFor}
 use Rattle.grid.specs.Filling.{Got}
+
+abbrev pub Rises : ℕ → ℕ → Type 0
+Rises a b = ((a ≡ 1) × (b ≡ 0)) ⊎ ((a ≡ 0) × (b ≡ 1))
+
+pub record Corner (three : Bool) (k f : ℕ) (sa sc : List ℕ) : Type 0 where
+  pub level : f ≡ 0
+  pub many : k ≡ pick three 3 2
+  pub one : getD sa 0 0 ≡ 1
+  pub two : getD sa 1 0 ≡ 1
+  pub rise : Rises (getD sc 0 0) (getD sc 1 0)
+  pub third : three ≡ true → (getD sa 2 0 ≡ 2) × (getD sc 2 0 ≡ 1)
+
+pub record Cornered (k f : ℕ) (sa sc : List ℕ) (hi m ex ey : ℕ) : Type 0 where
+  pub corner : Corner (eqb k 3) k f sa sc
+  pub slope : hi ≡ 6
+  pub deep : m ≡ 1
+  pub wide : ey ≤ ex
+
+abbrev pub CorneredFor : Plan → List ℕ → List ℕ → Type 0
+CorneredFor p sa sc = Cornered (p .k) (p .f) sa sc (p .hi) (p .m) (p .ex) (p .ey)
 
 abbrev pub Done : ℕ → ℕ → ℕ → ℕ → Type 0
 Done y i u v = (v < y) ⊎ ((v ≡ y) × (u < y + i))

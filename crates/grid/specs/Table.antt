@@ -5,10 +5,7 @@
 --   Few                  where few is true, only the first four steps are there
 --   Slopes               hi is six times the steepest step, m the deepest; what isn't there is too far
 --   Sizes                bounds of the numbers, so that no place of a cell is above 64 bits
---   Rises a b            one of the two is 1, the other 0
---   Corner three         the steps are (1,1) and (1,0), in either order, and (2,1) where three is true
---   Cornered             such steps, so that hi is 6 and m is 1, for an end that they can reach
---   Prepared             all of these, for a table of that size; the steps are a corner's where corner is true
+--   Prepared             all of these, for a table of that size
 --   Ends hi ex ey u y    from height y of column u the end's height can still be reached
 --   Fence f x r          r is the lowest height of column x that the wall f allows if it is a fence, else 0
 --   Roof f x y r         r is the highest that it allows if it is a roof, or y where that is lower
@@ -20,13 +17,11 @@
 --   Flagged              a sheet of values and flags
 --   Small                eight numbers of the columns before x can be summed
 use mathlib.Core.Path.{_≡_}
-use mathlib.Core.Logic.{_⊎_}
 use mathlib.Core.Bool.{Bool, true}
 use mathlib.Core.List.{List}
 use Prim.Native.Nat.{ℕ, _+_, _-_, _*_, _≤_, _<_}
-use lib.Dec.{T, eqb}
+use lib.Dec.{T}
 use lib.ListN.{getD}
-use Rattle.howmany.specs.Choose.{pick}
 use Rattle.grid.specs.Form.{roof, wall, W}
 use Rattle.grid.specs.Cells.{capOf, cellAt, strideOf, place}
 
@@ -59,29 +54,11 @@ pub record Sizes (f hi m ex ey : ℕ) : Type 0 where
   pub ey-le : ey ≤ 1000
   pub cells : (ex + 2) * strideOf m ey ≤ 3712
 
-abbrev pub Rises : ℕ → ℕ → Type 0
-Rises a b = ((a ≡ 1) × (b ≡ 0)) ⊎ ((a ≡ 0) × (b ≡ 1))
-
-pub record Corner (three : Bool) (k f : ℕ) (sa sc : List ℕ) : Type 0 where
-  pub level : f ≡ 0
-  pub many : k ≡ pick three 3 2
-  pub one : getD sa 0 0 ≡ 1
-  pub two : getD sa 1 0 ≡ 1
-  pub rise : Rises (getD sc 0 0) (getD sc 1 0)
-  pub third : three ≡ true → (getD sa 2 0 ≡ 2) × (getD sc 2 0 ≡ 1)
-
-pub record Cornered (k f : ℕ) (sa sc : List ℕ) (hi m ex ey : ℕ) : Type 0 where
-  pub corner : Corner (eqb k 3) k f sa sc
-  pub slope : hi ≡ 6
-  pub deep : m ≡ 1
-  pub wide : ey ≤ ex
-
-pub record Prepared (corner few : Bool) (k f : ℕ) (sa sc off : List ℕ) (hi m ex ey size : ℕ) : Type 0 where
+pub record Prepared (few : Bool) (k f : ℕ) (sa sc off : List ℕ) (hi m ex ey size : ℕ) : Type 0 where
   pub sizes : Sizes f hi m ex ey
   pub slopes : Slopes k sa sc hi m ex
   pub offs : Offsets sa sc off (strideOf m ey)
   pub fewer : Few few sa ex
-  pub cornered : corner ≡ true → Cornered k f sa sc hi m ex ey
   pub room : (ex + 2) * strideOf m ey ≤ size
 
 abbrev pub Ends : ℕ → ℕ → ℕ → ℕ → ℕ → Type 0

@@ -1,4 +1,4 @@
-// The count, in a table of the smallest of five sizes that has room: clearing the largest takes as long as filling a small one.
+// The count, in a table of the smallest of four sizes that has room: clearing the largest takes as long as filling a small one.
 ghost use mathlib.Core.Path.{_≡_};
 ghost use Rattle.grid.specs.Plans.{Planned, PreparedFor, countFor};
 use crate::Answer;
@@ -6,14 +6,6 @@ use crate::plan::Plan;
 use crate::plan::cells_of;
 use crate::plan::offsets;
 use crate::table::fill;
-
-fn count_128(sa: &[usize; 8], sc: &[usize; 8], off: &[usize; 8], p: Plan) -> Answer
-    requires { ⌜ PreparedFor p (now sa) (now sc) (now off) 128 ⌝ }
-    ensures { λ r. ⌜ r ≡ countFor p (now (sa .entry)) (now (sc .entry)) ⌝ }
-{
-    let mut val = [0u64; 128];
-    fill(&mut val, sa, sc, off, p)
-}
 
 fn count_384(sa: &[usize; 8], sc: &[usize; 8], off: &[usize; 8], p: Plan) -> Answer
     requires { ⌜ PreparedFor p (now sa) (now sc) (now off) 384 ⌝ }
@@ -54,9 +46,6 @@ pub(crate) fn count(sa: &[usize; 8], sc: &[usize; 8], p: Plan) -> Answer
 {
     let off = offsets(sa, sc, p);
     let cells = cells_of(p);
-    if cells <= 128 {
-        return count_128(sa, sc, &off, p);
-    }
     if cells <= 384 {
         return count_384(sa, sc, &off, p);
     }

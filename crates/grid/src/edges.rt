@@ -1,5 +1,6 @@
-// Edges of the grid from their end backwards: the number of an edge, and the edge of a number.
+// Edges of families 6 and 7 from their end backwards: the number of an edge, and the edge of a number.
 ghost use mathlib.Core.Path.{_≡_};
+ghost use mathlib.Core.Bool.{false};
 ghost use Prim.Native.Nat.{_≤_, _<_};
 ghost use lib.ListN.{length, drop};
 ghost use Rattle.howmany.specs.Sum.{sum};
@@ -17,19 +18,10 @@ use job::Step;
 use letters::place_of;
 
 // The byte of step i.
-fn glyph_of(corner: bool, i: usize) -> u8
+fn glyph_of(i: usize) -> u8
     requires { ⌜ i < 8 ⌝ }
-    ensures { λ r. ⌜ r ≡ glyphOf corner i ⌝ }
+    ensures { λ r. ⌜ r ≡ glyphOf false i ⌝ }
 {
-    if corner {
-        if i == 0 {
-            return Step::NORTH;
-        }
-        if i == 1 {
-            return Step::EAST;
-        }
-        return Step::DIAGONAL;
-    }
     (i + Step::FIRST as usize) as u8
 }
 
@@ -71,7 +63,7 @@ pub(crate) fn read(
     e: &[u8],
 ) -> Numbered
     requires { ⌜ Full p (now sa) (now sc) (now off) (now val) ⌝ }
-    ensures { λ r. ⌜ numberSays r ≡ reply (numberFor p (now (sa .entry)) (now (sc .entry)) (now (e .entry))) ⌝ }
+    ensures { λ r. ⌜ numberSays r ≡ reply (numberFor false p (now (sa .entry)) (now (sc .entry)) (now (e .entry))) ⌝ }
 {
     let mut acc: u64 = 0;
     let mut x = p.ex;
@@ -80,7 +72,7 @@ pub(crate) fn read(
     let mut i = e.len();
     while 0 < i {
         i -= 1;
-        let l = place_of(p.corner, e[i]);
+        let l = place_of(false, e[i]);
         if !stays(p.f, x, y) {
             return Numbered::Refused(5);
         }
@@ -157,7 +149,7 @@ pub(crate) fn spell(
     buf: &mut [u8],
 ) -> usize
     requires { ⌜ Full p (now sa) (now sc) (now off) (now val) × (r < walksFor p (now sa) (now sc)) × (length (now buf) ≡ 128) ⌝ }
-    ensures { λ s. ⌜ (s ≤ 128) × (drop s (now (buf .exit)) ≡ edgeFor p (now (sa .entry)) (now (sc .entry)) r) ⌝ }
+    ensures { λ s. ⌜ (s ≤ 128) × (drop s (now (buf .exit)) ≡ edgeFor false p (now (sa .entry)) (now (sc .entry)) r) ⌝ }
 {
     let mut x = p.ex;
     let mut y = p.ey;
@@ -169,7 +161,7 @@ pub(crate) fn spell(
         let l = q.letter;
         left = q.rest;
         s -= 1;
-        buf[s] = glyph_of(p.corner, l);
+        buf[s] = glyph_of(l);
         x -= sa[l];
         y -= sc[l];
         at -= off[l];

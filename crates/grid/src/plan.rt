@@ -1,16 +1,13 @@
 // What is found out of a shape before its table is filled.
 ghost use mathlib.Core.Path.{_≡_};
-ghost use mathlib.Core.Bool.{false};
 ghost use Prim.Native.Nat.{_*_, _≤_};
 ghost use Rattle.grid.specs.Shapes.{FormOf};
 ghost use Rattle.grid.specs.Table.{Few, Offsets};
 ghost use Rattle.grid.specs.Plans.{Planned, PlanOf, SizesFor, strideFor, cellsFor};
 use crate::shape::Shape;
 
-// The numbers of a shape, six times its steepest step (hi), its deepest (m), and whether it has only the first four (few). Corner is true
-// for families 1 and 3, which make no shape: their edges are written N E D, and their table is filled row by row.
+// The numbers of a shape, six times its steepest step (hi), its deepest (m), and whether it has only the first four (few).
 pub(crate) struct Plan {
-    pub corner: bool,
     pub few: bool,
     pub k: usize,
     pub f: usize,
@@ -77,7 +74,7 @@ fn is_few(sa: &[usize; 8], ex: usize) -> bool
 // The plan of a shape.
 pub(crate) fn plan_of(s: Shape) -> Plan
     requires { ⌜ FormOf s ⌝ }
-    ensures { λ p. ⌜ PlanOf false s p ⌝ }
+    ensures { λ p. ⌜ PlanOf s p ⌝ }
 {
     let mut hi: usize = 0;
     let mut m: usize = 0;
@@ -91,7 +88,6 @@ pub(crate) fn plan_of(s: Shape) -> Plan
     }
     let few = is_few(&s.sa, s.ex);
     Plan {
-        corner: false,
         few,
         k: s.k,
         f: s.f,

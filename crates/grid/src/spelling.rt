@@ -1,6 +1,6 @@
 // The edges of a list of numbers: the table is filled once, so that refusal 4 goes before 6, and then each edge is spelt from its end.
 ghost use mathlib.Core.Path.{_≡_};
-ghost use mathlib.Core.Bool.{true};
+ghost use mathlib.Core.Bool.{true, false};
 ghost use Prim.Native.Nat.{_≤_, _<_};
 ghost use lib.ListN.{length};
 ghost use Rattle.rules.specs.Questions.{allBelow};
@@ -26,7 +26,7 @@ fn spell_front(
     steps: &mut [u8],
 ) -> usize
     requires { ⌜ Full p (now sa) (now sc) (now off) (now val) × (r < walksFor p (now sa) (now sc)) × (128 ≤ length (now steps)) ⌝ }
-    ensures { λ n. ⌜ Front (edgeFor p (now (sa .entry)) (now (sc .entry)) r) (now (steps .entry)) (now (steps .exit)) n ⌝ }
+    ensures { λ n. ⌜ Front (edgeFor false p (now (sa .entry)) (now (sc .entry)) r) (now (steps .entry)) (now (steps .exit)) n ⌝ }
 {
     let mut buf = [0u8; 128];
     let at = spell(val, sa, sc, off, p, r, &mut buf);
@@ -46,7 +46,7 @@ fn spell_all(
     ends: &mut [usize],
 ) -> usize
     requires { ⌜ Full p (now sa) (now sc) (now off) (now val) × (allBelow (walksFor p (now sa) (now sc)) (now numbers) ≡ true) × RoomFor (now numbers) (now steps) (now ends) ⌝ }
-    ensures { λ at. ⌜ ListsFor p (now (sa .entry)) (now (sc .entry)) (now (numbers .entry)) (now (steps .entry)) (now (ends .entry)) (now (steps .exit)) (now (ends .exit)) at ⌝ }
+    ensures { λ at. ⌜ ListsFor false p (now (sa .entry)) (now (sc .entry)) (now (numbers .entry)) (now (steps .entry)) (now (ends .entry)) (now (steps .exit)) (now (ends .exit)) at ⌝ }
 {
     let mut at: usize = 0;
     let mut i: usize = 0;
@@ -71,7 +71,7 @@ fn spell_in(
     ends: &mut [usize],
 ) -> Built
     requires { ⌜ Begun p (now sa) (now sc) (now off) (now val) × RoomFor (now numbers) (now steps) (now ends) ⌝ }
-    ensures { λ r. ⌜ BuildsFor p (now (sa .entry)) (now (sc .entry)) (now (numbers .entry)) (now (steps .entry)) (now (ends .entry)) (now (steps .exit)) (now (ends .exit)) r ⌝ }
+    ensures { λ r. ⌜ BuildsFor false p (now (sa .entry)) (now (sc .entry)) (now (numbers .entry)) (now (steps .entry)) (now (ends .entry)) (now (steps .exit)) (now (ends .exit)) r ⌝ }
 {
     let Answer::Count(c) = fill(val, sa, sc, off, p) else {
         return Built::Refused(4);
@@ -80,22 +80,6 @@ fn spell_in(
         return Built::Refused(6);
     }
     Built::Length(spell_all(val, sa, sc, off, p, numbers, steps, ends))
-}
-
-fn spell_128(
-    sa: &[usize; 8],
-    sc: &[usize; 8],
-    off: &[usize; 8],
-    p: Plan,
-    numbers: &[u64],
-    steps: &mut [u8],
-    ends: &mut [usize],
-) -> Built
-    requires { ⌜ PreparedFor p (now sa) (now sc) (now off) 128 × RoomFor (now numbers) (now steps) (now ends) ⌝ }
-    ensures { λ r. ⌜ BuildsFor p (now (sa .entry)) (now (sc .entry)) (now (numbers .entry)) (now (steps .entry)) (now (ends .entry)) (now (steps .exit)) (now (ends .exit)) r ⌝ }
-{
-    let mut val = [0u64; 128];
-    spell_in(&mut val, sa, sc, off, p, numbers, steps, ends)
 }
 
 fn spell_384(
@@ -108,7 +92,7 @@ fn spell_384(
     ends: &mut [usize],
 ) -> Built
     requires { ⌜ PreparedFor p (now sa) (now sc) (now off) 384 × RoomFor (now numbers) (now steps) (now ends) ⌝ }
-    ensures { λ r. ⌜ BuildsFor p (now (sa .entry)) (now (sc .entry)) (now (numbers .entry)) (now (steps .entry)) (now (ends .entry)) (now (steps .exit)) (now (ends .exit)) r ⌝ }
+    ensures { λ r. ⌜ BuildsFor false p (now (sa .entry)) (now (sc .entry)) (now (numbers .entry)) (now (steps .entry)) (now (ends .entry)) (now (steps .exit)) (now (ends .exit)) r ⌝ }
 {
     let mut val = [0u64; 384];
     spell_in(&mut val, sa, sc, off, p, numbers, steps, ends)
@@ -124,7 +108,7 @@ fn spell_1280(
     ends: &mut [usize],
 ) -> Built
     requires { ⌜ PreparedFor p (now sa) (now sc) (now off) 1280 × RoomFor (now numbers) (now steps) (now ends) ⌝ }
-    ensures { λ r. ⌜ BuildsFor p (now (sa .entry)) (now (sc .entry)) (now (numbers .entry)) (now (steps .entry)) (now (ends .entry)) (now (steps .exit)) (now (ends .exit)) r ⌝ }
+    ensures { λ r. ⌜ BuildsFor false p (now (sa .entry)) (now (sc .entry)) (now (numbers .entry)) (now (steps .entry)) (now (ends .entry)) (now (steps .exit)) (now (ends .exit)) r ⌝ }
 {
     let mut val = [0u64; 1280];
     spell_in(&mut val, sa, sc, off, p, numbers, steps, ends)
@@ -140,7 +124,7 @@ fn spell_2496(
     ends: &mut [usize],
 ) -> Built
     requires { ⌜ PreparedFor p (now sa) (now sc) (now off) 2496 × RoomFor (now numbers) (now steps) (now ends) ⌝ }
-    ensures { λ r. ⌜ BuildsFor p (now (sa .entry)) (now (sc .entry)) (now (numbers .entry)) (now (steps .entry)) (now (ends .entry)) (now (steps .exit)) (now (ends .exit)) r ⌝ }
+    ensures { λ r. ⌜ BuildsFor false p (now (sa .entry)) (now (sc .entry)) (now (numbers .entry)) (now (steps .entry)) (now (ends .entry)) (now (steps .exit)) (now (ends .exit)) r ⌝ }
 {
     let mut val = [0u64; 2496];
     spell_in(&mut val, sa, sc, off, p, numbers, steps, ends)
@@ -156,13 +140,13 @@ fn spell_3712(
     ends: &mut [usize],
 ) -> Built
     requires { ⌜ PreparedFor p (now sa) (now sc) (now off) 3712 × RoomFor (now numbers) (now steps) (now ends) ⌝ }
-    ensures { λ r. ⌜ BuildsFor p (now (sa .entry)) (now (sc .entry)) (now (numbers .entry)) (now (steps .entry)) (now (ends .entry)) (now (steps .exit)) (now (ends .exit)) r ⌝ }
+    ensures { λ r. ⌜ BuildsFor false p (now (sa .entry)) (now (sc .entry)) (now (numbers .entry)) (now (steps .entry)) (now (ends .entry)) (now (steps .exit)) (now (ends .exit)) r ⌝ }
 {
     let mut val = [0u64; 3712];
     spell_in(&mut val, sa, sc, off, p, numbers, steps, ends)
 }
 
-// The edges, over a table of the smallest of five sizes that has room.
+// The edges, over a table of the smallest of four sizes that has room.
 pub(crate) fn spell_edges(
     sa: &[usize; 8],
     sc: &[usize; 8],
@@ -172,13 +156,10 @@ pub(crate) fn spell_edges(
     ends: &mut [usize],
 ) -> Built
     requires { ⌜ Planned (now sa) (now sc) p × RoomFor (now numbers) (now steps) (now ends) ⌝ }
-    ensures { λ r. ⌜ BuildsFor p (now (sa .entry)) (now (sc .entry)) (now (numbers .entry)) (now (steps .entry)) (now (ends .entry)) (now (steps .exit)) (now (ends .exit)) r ⌝ }
+    ensures { λ r. ⌜ BuildsFor false p (now (sa .entry)) (now (sc .entry)) (now (numbers .entry)) (now (steps .entry)) (now (ends .entry)) (now (steps .exit)) (now (ends .exit)) r ⌝ }
 {
     let off = offsets(sa, sc, p);
     let cells = cells_of(p);
-    if cells <= 128 {
-        return spell_128(sa, sc, &off, p, numbers, steps, ends);
-    }
     if cells <= 384 {
         return spell_384(sa, sc, &off, p, numbers, steps, ends);
     }

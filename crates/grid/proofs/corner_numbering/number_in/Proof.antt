@@ -1,5 +1,6 @@
 -- `grid::corner_numbering::number_in` meets its contract: by the table's answer and the edge read. Assumes nothing.
 use mathlib.Core.Path.{sym, _∙_}
+use mathlib.Core.Bool.{true}
 use Rattle.grid.specs.Corners.{cornerPlan}
 use Rattle.grid.proofs.Laws.{cap-count, cap-over, count-over}
 use Rattle.grid.proofs.Phases.{ready-len}
@@ -19,7 +20,7 @@ same-length c = search needs
 
 returns : tie.Need-returns
 returns c =
-    table-over (cornerPlan (c .before .before .before .before .before .before .before .before .args .c)) _ _ _ (cap-over _ (sym (c .before .before .before .before .fill-rows .ensures .answer) ∙ c .enum-told .given .1))
+    table-over true (cornerPlan (c .before .before .before .before .before .before .before .before .args .c)) _ _ _ (cap-over _ (sym (c .before .before .before .before .fill-rows .ensures .answer) ∙ c .enum-told .given .1))
 
 enum-told-2 : tie.Need-enum-told-2
 enum-told-2 c = search needs

@@ -1,6 +1,7 @@
 -- `grid::corner_numbering::read` meets its contract: at each step what is read so far and what is left make up the edge's validity and its
 -- number. Assumes nothing.
 use mathlib.Core.Path.{refl}
+use mathlib.Core.Bool.{true}
 use native.Mathlib.Omega.{arith}
 use borrow.Author.Tests.{not-true, not-false}
 use Rattle.grid.specs.Corners.{cornerPlan, cornerRight, cornerUp, cornerBack}
@@ -11,7 +12,7 @@ use Rattle.grid.proofs.corner_numbering.read.Tie as tie
 
 abbrev Inv-loop : tie.InvT-loop
 Inv-loop val c e up-n up-e north east acc₀ x₀ y₀ at₀ i₀ acc x y at i =
-    Walking (cornerPlan c) (cornerRight c) (cornerUp c) (cornerBack c) val e acc x y at i
+    Walking true (cornerPlan c) (cornerRight c) (cornerUp c) (cornerBack c) val e acc x y at i
 
 abbrev μ-loop : tie.MeasureT-loop
 μ-loop val c e up-n up-e north east acc₀ x₀ y₀ at₀ i₀ acc x y at i = i

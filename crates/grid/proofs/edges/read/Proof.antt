@@ -1,6 +1,7 @@
 -- `grid::edges::read` meets its contract: at each step what is read so far and what is left make up the edge's validity and its number.
 -- Assumes nothing.
 use mathlib.Core.Path.{sym, _∙_}
+use mathlib.Core.Bool.{false}
 use borrow.Author.Tests.{not-true, not-false}
 use Rattle.howmany.proofs.Choices.{holds}
 use Rattle.grid.proofs.Phases.{place-sum, end-placed}
@@ -9,7 +10,7 @@ use Rattle.grid.proofs.edges.read.Statement.{statement}
 use Rattle.grid.proofs.edges.read.Tie as tie
 
 abbrev Inv-loop : tie.InvT-loop
-Inv-loop val sa sc off p e acc₀ x₀ y₀ at₀ i₀ acc x y at i = Walking p sa sc off val e acc x y at i
+Inv-loop val sa sc off p e acc₀ x₀ y₀ at₀ i₀ acc x y at i = Walking false p sa sc off val e acc x y at i
 
 abbrev μ-loop : tie.MeasureT-loop
 μ-loop val sa sc off p e acc₀ x₀ y₀ at₀ i₀ acc x y at i = i

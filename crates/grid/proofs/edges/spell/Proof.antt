@@ -1,4 +1,5 @@
 use mathlib.Core.Path.{_≡_, refl}
+use mathlib.Core.Bool.{false}
 use lib.ListN.{length, length-set}
 use Rattle.grid.proofs.Phases.{place-sum, end-placed}
 use Rattle.grid.proofs.Building.{Writing, writing-start, reads-of, left-of, written, writing-end}
@@ -7,7 +8,7 @@ use Rattle.grid.proofs.edges.spell.Tie as tie
 
 abbrev Inv-loop : tie.InvT-loop
 Inv-loop val sa sc off p r buf₀ x₀ y₀ at₀ left₀ s₀ buf x y at left s =
-    (length buf ≡ length buf₀) × Writing p sa sc off val r buf₀ buf x y at left s
+    (length buf ≡ length buf₀) × Writing false p sa sc off val r buf₀ buf x y at left s
 
 abbrev μ-loop : tie.MeasureT-loop
 μ-loop val sa sc off p r buf₀ x₀ y₀ at₀ left₀ s₀ buf x y at left s = x

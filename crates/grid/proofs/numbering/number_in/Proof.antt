@@ -1,5 +1,6 @@
 -- `grid::numbering::number_in` meets its contract: by the table's answer and the edge read. Assumes nothing.
 use mathlib.Core.Path.{sym, _∙_}
+use mathlib.Core.Bool.{false}
 use Rattle.grid.proofs.Laws.{cap-count, cap-over, count-over}
 use Rattle.grid.proofs.Phases.{ready-len}
 use Rattle.grid.proofs.Tabled.{table-over}
@@ -18,7 +19,7 @@ same-length c = search needs
 
 returns : tie.Need-returns
 returns c =
-    table-over (c .before .before .before .before .before .before .before .before .args .p) _ _ _ (cap-over _ (sym (c .before .before .before .before .fill .ensures .answer) ∙ c .enum-told .given .1))
+    table-over false (c .before .before .before .before .before .before .before .before .args .p) _ _ _ (cap-over _ (sym (c .before .before .before .before .fill .ensures .answer) ∙ c .enum-told .given .1))
 
 enum-told-2 : tie.Need-enum-told-2
 enum-told-2 c = search needs

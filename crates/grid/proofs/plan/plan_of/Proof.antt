@@ -1,8 +1,7 @@
 -- `grid::plan::plan_of` meets its contract: the steepest and the deepest step are found by one loop. Assumes nothing.
-use mathlib.Core.Path.{refl, sym, subst}
+use mathlib.Core.Path.{refl}
 use Prim.Native.Nat.{_≤_, _-_}
 use native.Mathlib.Omega.{arith}
-use lib.Dec.{T}
 use Rattle.grid.specs.Table.{Steepest, Deepest}
 use Rattle.grid.proofs.Prepare.{steepest-none, steepest-more, steepest-at, deepest-none, deepest-more, deepest-at, form-pos, form-near, form-low}
 use borrow.Author.Needs.{needs}
@@ -50,8 +49,7 @@ is-few-requires c κs = search needs
 
 returns : tie.Need-returns Inv-loop μ-loop
 returns c = record {
-  planned = record { form = c .before .before .before .before .before .pre; steep = steepest-at (c .before .before .before .before .loop .inv .1) (omega arith); deep = deepest-at (c .before .before .before .before .loop .inv .2) (omega arith); fewer = c .is-few .ensures; cornered = λ e. absurd (subst T (sym e) tt) };
-  corner-is = refl;
+  planned = record { form = c .before .before .before .before .before .pre; steep = steepest-at (c .before .before .before .before .loop .inv .1) (omega arith); deep = deepest-at (c .before .before .before .before .loop .inv .2) (omega arith); fewer = c .is-few .ensures };
   k-is = refl;
   f-is = refl;
   ex-is = refl;

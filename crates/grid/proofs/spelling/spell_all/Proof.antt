@@ -1,4 +1,5 @@
 -- `grid::spelling::spell_all` meets its contract: each edge is spelt where the one before it ends. Assumes nothing.
+use mathlib.Core.Bool.{false}
 use native.Mathlib.Omega.{arith}
 use Prim.Native.Nat.{_-_}
 use lib.ListN.{length}
@@ -12,7 +13,7 @@ use Rattle.grid.proofs.spelling.spell_all.Statement.{statement}
 use Rattle.grid.proofs.spelling.spell_all.Tie as tie
 
 abbrev Inv-loop : tie.InvT-loop
-Inv-loop val sa sc off p numbers steps₀ ends₀ at₀ i₀ steps ends at i = Lining (edgeFor p sa sc) numbers steps₀ ends₀ i at steps ends
+Inv-loop val sa sc off p numbers steps₀ ends₀ at₀ i₀ steps ends at i = Lining (edgeFor false p sa sc) numbers steps₀ ends₀ i at steps ends
 
 abbrev μ-loop : tie.MeasureT-loop
 μ-loop val sa sc off p numbers steps₀ ends₀ at₀ i₀ steps ends at i = length numbers - i

@@ -1,5 +1,6 @@
 -- `grid::spelling::spell_in` meets its contract: by the table's answer and the numbers. Assumes nothing.
 use mathlib.Core.Path.{sym, _∙_}
+use mathlib.Core.Bool.{false}
 use borrow.Author.Tests.{not-true, not-false}
 use Rattle.grid.proofs.Laws.{cap-count, cap-over, count-over}
 use Rattle.grid.proofs.Phases.{ready-len}
@@ -21,7 +22,7 @@ same-length : tie.Need-same-length
 same-length c = search needs
 
 returns : tie.Need-returns
-returns c = for-over (c .before .before .before .before .before .before .before .before .before .before .args .p) _ _ _ _ _ (cap-over _ (sym (c .before .before .before .before .fill .ensures .answer) ∙ c .enum-told .given .1))
+returns c = for-over false (c .before .before .before .before .before .before .before .before .before .before .args .p) _ _ _ _ _ (cap-over _ (sym (c .before .before .before .before .fill .ensures .answer) ∙ c .enum-told .given .1))
 
 all-below-requires : tie.Need-all-below-requires
 all-below-requires c κs = search needs
@@ -30,7 +31,7 @@ same-length-2 : tie.Need-same-length-2
 same-length-2 c = search needs
 
 returns-2 : tie.Need-returns-2
-returns-2 c = for-beyond (c .before .before .before .before .before .before .before .before .before .before .before .before .before .args .p) _ _ _ _ _ (cap-count _ _ (sym (c .before .before .before .before .before .before .before .fill .ensures .answer) ∙ c .before .before .before .c .given .1) .1) (below-told (c .before .before .before .before .before .before .before .before .before .before .before .before .before .args .numbers .now) _ _ _ (sym (cap-count _ _ (sym (c .before .before .before .before .before .before .before .fill .ensures .answer) ∙ c .before .before .before .c .given .1) .0)) (c .before .all-below .ensures) ∙ not-true _ (c .if1 .taken))
+returns-2 c = for-beyond false (c .before .before .before .before .before .before .before .before .before .before .before .before .before .args .p) _ _ _ _ _ (cap-count _ _ (sym (c .before .before .before .before .before .before .before .fill .ensures .answer) ∙ c .before .before .before .c .given .1) .1) (below-told (c .before .before .before .before .before .before .before .before .before .before .before .before .before .args .numbers .now) _ _ _ (sym (cap-count _ _ (sym (c .before .before .before .before .before .before .before .fill .ensures .answer) ∙ c .before .before .before .c .given .1) .0)) (c .before .all-below .ensures) ∙ not-true _ (c .if1 .taken))
 
 spell-all-requires : tie.Need-spell-all-requires
 spell-all-requires c κs = (record { ready = ready-len (c .before .before .before .before .before .before .before .before .before .before .before .before .before .before .before .before .pre .0 .ready) (search needs); solid = c .before .before .before .before .before .before .before .before .before .before .fill .ensures .solid (count-over (c .before .before .before .before .before .before .c .given .1)); fits = cap-count _ _ (sym (c .before .before .before .before .before .before .before .before .before .before .fill .ensures .answer) ∙ c .before .before .before .before .before .before .c .given .1) .1 }, below-told (c .before .before .before .before .before .before .before .before .before .before .before .before .before .before .before .before .args .numbers .now) _ _ _ (sym (cap-count _ _ (sym (c .before .before .before .before .before .before .before .before .before .before .fill .ensures .answer) ∙ c .before .before .before .before .before .before .c .given .1) .0)) (c .before .before .before .before .all-below .ensures) ∙ not-false _ (c .before .before .before .if1 .left), c .before .before .before .before .before .before .before .before .before .before .before .before .before .before .before .before .pre .1)
@@ -45,7 +46,7 @@ same-length-5 : tie.Need-same-length-5
 same-length-5 c = search needs
 
 returns-3 : tie.Need-returns-3
-returns-3 c = for-all (c .before .before .before .before .before .before .before .before .before .before .before .before .before .before .before .before .before .before .before .before .before .args .p) _ _ _ _ _ _ _ _ (cap-count _ _ (sym (c .before .before .before .before .before .before .before .before .before .before .before .before .before .before .before .fill .ensures .answer) ∙ c .before .before .before .before .before .before .before .before .before .before .before .c .given .1) .1) (below-told (c .before .before .before .before .before .before .before .before .before .before .before .before .before .before .before .before .before .before .before .before .before .args .numbers .now) _ _ _ (sym (cap-count _ _ (sym (c .before .before .before .before .before .before .before .before .before .before .before .before .before .before .before .fill .ensures .answer) ∙ c .before .before .before .before .before .before .before .before .before .before .before .c .given .1) .0)) (c .before .before .before .before .before .before .before .before .before .all-below .ensures) ∙ not-false _ (c .before .before .before .before .before .before .before .before .if1 .left)) (c .before .before .before .before .spell-all .ensures)
+returns-3 c = for-all false (c .before .before .before .before .before .before .before .before .before .before .before .before .before .before .before .before .before .before .before .before .before .args .p) _ _ _ _ _ _ _ _ (cap-count _ _ (sym (c .before .before .before .before .before .before .before .before .before .before .before .before .before .before .before .fill .ensures .answer) ∙ c .before .before .before .before .before .before .before .before .before .before .before .c .given .1) .1) (below-told (c .before .before .before .before .before .before .before .before .before .before .before .before .before .before .before .before .before .before .before .before .before .args .numbers .now) _ _ _ (sym (cap-count _ _ (sym (c .before .before .before .before .before .before .before .before .before .before .before .before .before .before .before .fill .ensures .answer) ∙ c .before .before .before .before .before .before .before .before .before .before .before .c .given .1) .0)) (c .before .before .before .before .before .before .before .before .before .all-below .ensures) ∙ not-false _ (c .before .before .before .before .before .before .before .before .if1 .left)) (c .before .before .before .before .spell-all .ensures)
 
 pub spell-in-spec : {M : Type 1} → statement M
 spell-in-spec =
