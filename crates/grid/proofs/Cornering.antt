@@ -7,9 +7,9 @@
 --   read-start                      the loop of `read`, before its first turn
 --   not-left, not-north, not-east, not-any, not-there, not-across, not-under    where `read` finds that the bytes are no edge
 --   Taken, north-taken, east-taken, across-taken    a step read
---   Given, Spelt, spelt-start, spelt-end, spelt-near    the loop of `spell`
+--   Given, Spelt, spelt-start, spelt-end, spelt-near, spelt-room    the loop of `spell`
 --   Put, north-put, east-put, across-put            a step written
-use mathlib.Core.Path.{_≡_, refl, sym, ap, _∙_, subst}
+use mathlib.Core.Path.{_≡_, refl, sym, ap, _∙_}
 use mathlib.Core.Bool.{Bool, true, false, not}
 use mathlib.Core.List.{List}
 use Prim.Native.Nat.{ℕ, _+_, _-_, _*_, _^_, _≤_, _<_}
@@ -38,7 +38,7 @@ use Rattle.grid.proofs.Columns.{source-in}
 use Rattle.grid.proofs.Phases.{last-row}
 use Rattle.grid.proofs.Along.{Along, along-start, along-over, along-next}
 use Rattle.grid.proofs.Numbers.{Walking, walking-start, Stepped, stepped, step-as, not-letter, not-right, not-up, read-in, read-is}
-use Rattle.grid.proofs.Building.{Writing, Written, written, write-as, writing-start, writing-end, reads-of, left-of, seek-here, seek-more, seek-end}
+use Rattle.grid.proofs.Building.{Writing, written, write-as, writing-start, writing-end, reads-of, left-of, seek-here, seek-end}
 
 two-there : (d : Bool) → (2 ≤ pick d 3 2) × (pick d 3 2 ≤ 8)
 two-there true = (omega arith, omega arith)
@@ -247,8 +247,6 @@ pub record Spelt (c : Corner) (val : List ℕ) (r : ℕ) (buf₀ buf : List ℕ)
   pub writing : Writing true (cornerPlan c) (cornerRight c) (cornerUp c) (cornerBack c) val r buf₀ buf x y cell left s
 
 pub record Put (c : Corner) (val : List ℕ) (r : ℕ) (buf₀ buf : List ℕ) (x cell s g a o rest : ℕ) : Type 0 where
-  pub least : 1 ≤ s
-  pub inside : s - 1 < length buf
   pub right : a ≤ x
   pub far : o ≤ cell
   pub ahead : x - a < x
@@ -274,8 +272,6 @@ module _ (c : Corner) {val : List ℕ} {r : ℕ} {buf₀ : List ℕ} where
       put l g a b rest so ea eb eg =
           let t = written (w .writing) px l rest so in
           record {
-            least = t .least;
-            inside = t .inside;
             right = omega (arith, ea, t .right);
             far = omega (arith, eb, t .far);
             ahead = rw ea (t .ahead);

@@ -9,6 +9,7 @@
 --   turn-none                              `turn`
 --   resume                                 flags put beside a table
 --   flagged-filled, got-filled             a table filled, with flags and without
+--   filled-over, filled-count, filled-full    what the answer says of the count and of the table
 --   last-row, end-cells, end-room          the end's cell is there
 use mathlib.Core.Path.{_≡_, refl, sym, ap, _∙_}
 use mathlib.Core.Bool.{Bool}
@@ -23,15 +24,15 @@ use borrow.Author.Tests.{ne-eqb}
 use Rattle.job.proofs.Puts.{zeros-at}
 use Rattle.howmany.specs.Sum.{sum}
 use Rattle.grid.specs.declared.Answer.{Answer}
-use Rattle.grid.specs.declared.Answer.the-variants.{Count}
+use Rattle.grid.specs.declared.Answer.the-variants.{Count, Over}
 use Rattle.grid.specs.declared.plan.Plan.{Plan}
 use Rattle.grid.specs.Form.{W, via}
 use Rattle.grid.specs.Cells.{capOf, cellAt, Put, strideOf, place, sourceOf}
 use Rattle.grid.specs.Table.{Sizes, Prepared, From, To, Cells, Table, Flagged}
-use Rattle.grid.specs.Plans.{strideFor, cellsFor, PreparedFor, TableFor, FlaggedFor, SmallFor}
-use Rattle.grid.specs.Filling.{Begun, Got, Turn, Slow, Part, Parts, Filled}
+use Rattle.grid.specs.Plans.{strideFor, cellsFor, PreparedFor, TableFor, FlaggedFor, SmallFor, walksFor}
+use Rattle.grid.specs.Filling.{Begun, Got, Turn, Slow, Part, Parts, Filled, Full}
 use Rattle.grid.proofs.Walls.{wall-in}
-use Rattle.grid.proofs.Laws.{W-start, mul-bound, cap-lt, cell-zero}
+use Rattle.grid.proofs.Laws.{W-start, mul-bound, cap-lt, cap-count, cap-over, count-over, cell-zero}
 use Rattle.grid.proofs.Counts.{pos-of, W-all}
 use Rattle.grid.proofs.Columns.{source-left, source-in, rows, grow, one-more, brings, sheet-next, sheet-same}
 
@@ -211,6 +212,18 @@ module _ {p : Plan} {sa sc : List ℕ} {val : List ℕ} {x : ℕ} (g : Got p sa 
     answer = sym (cap-lt v (omega (arith, fits at))) ∙ ap capOf (ev ∙ ap (λ (j : ℕ). getD val j 0) ep ∙ g .table .cells .right (p .ex) (p .ey) (omega arith) (omega arith, omega arith));
     solid = λ n. record { ov = replicate 3712 0; flags = rw e at (resume-cells val (g .table) fits) };
   }
+
+-- what the answer for the end says of the table
+module _ {p : Plan} {sa sc val : List ℕ} {r : Answer} (f : Filled p sa sc val r) where
+  pub filled-over : r ≡ Over → 2 ^ 64 ≤ walksFor p sa sc
+  filled-over e = cap-over (walksFor p sa sc) (sym (f .answer) ∙ e)
+
+  module _ {w : ℕ} (e : r ≡ Count w) where
+    pub filled-count : (w ≡ walksFor p sa sc) × (walksFor p sa sc < 2 ^ 64)
+    filled-count = let h = cap-count (walksFor p sa sc) w (sym (f .answer) ∙ e) in (sym (h .0), h .1)
+
+    pub filled-full : {off val₀ : List ℕ} → Begun p sa sc off val₀ → length val ≡ length val₀ → Full p sa sc off val
+    filled-full b l = record { ready = ready-len (b .ready) l; solid = f .solid (count-over e); fits = filled-count .1 }
 
 module _ {few : Bool} {k f : ℕ} {sa sc off : List ℕ} {hi m ex ey size : ℕ} (r : Prepared few k f sa sc off hi m ex ey size) where
   pub end-cells : (ex + 1) * strideOf m ey + strideOf m ey ≤ 3712

@@ -1,6 +1,6 @@
 // Families 1 and 3, sheared by (x + y, y), and mirrored where n is below m, so that the end is at the lesser of the two and the table is small.
 ghost use mathlib.Core.Path.{_≡_};
-ghost use Prim.Native.Nat.{_≤_, _+_, _*_};
+ghost use Prim.Native.Nat.{_≤_};
 ghost use lib.ListN.{getD};
 ghost use Rattle.grid.specs.Plans.{strideFor, cellsFor};
 ghost use Rattle.grid.specs.Corners.{cornerOf, cornerPlan, cornerBack, cornerEnd, rises, CornerSizes, Within};

@@ -1,9 +1,7 @@
 -- `grid::corner_numbering::number` meets its contract: the count is over where both n and m are above 33, and else the smallest size that has
 -- room is prepared. Assumes nothing.
-use native.Mathlib.Omega.{arith}
 use Rattle.grid.proofs.Counted.{number-over}
 use Rattle.grid.proofs.Corners.{corner-over, corner-ready, corner-last, corner-number}
-use borrow.Author.Needs.{needs}
 use Rattle.grid.proofs.corner_numbering.number.Statement.{statement}
 use Rattle.grid.proofs.corner_numbering.number.Tie as tie
 

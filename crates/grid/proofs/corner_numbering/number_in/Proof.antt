@@ -1,9 +1,7 @@
 -- `grid::corner_numbering::number_in` meets its contract: by the table's answer and the edge read. Assumes nothing.
-use mathlib.Core.Path.{sym, _∙_}
 use mathlib.Core.Bool.{true}
 use Rattle.grid.specs.Corners.{cornerPlan}
-use Rattle.grid.proofs.Laws.{cap-count, cap-over, count-over}
-use Rattle.grid.proofs.Phases.{ready-len}
+use Rattle.grid.proofs.Phases.{filled-over, filled-full}
 use Rattle.grid.proofs.Tabled.{table-over}
 use borrow.Author.Needs.{needs}
 use Rattle.grid.proofs.corner_numbering.number_in.Statement.{statement}
@@ -20,14 +18,14 @@ same-length c = search needs
 
 returns : tie.Need-returns
 returns c =
-    table-over true (cornerPlan (c .before .before .before .before .before .before .before .before .args .c)) _ _ _ (cap-over _ (sym (c .before .before .before .before .fill-rows .ensures .answer) ∙ c .enum-told .given .1))
+    table-over true (cornerPlan (c .before .before .before .before .before .before .before .before .args .c)) _ _ _ (filled-over (c .before .before .before .before .fill-rows .ensures) (c .enum-told .given .1))
 
 enum-told-2 : tie.Need-enum-told-2
 enum-told-2 c = search needs
 
 read-requires : tie.Need-read-requires
 read-requires c κs =
-    record { ready = ready-len (c .before .before .before .before .before .before .before .before .before .pre .ready) (search needs); solid = c .before .before .before .before .before .fill-rows .ensures .solid (count-over (c .before .enum-told2 .given .1)); fits = cap-count _ _ (sym (c .before .before .before .before .before .fill-rows .ensures .answer) ∙ c .before .enum-told2 .given .1) .1 }
+    filled-full (c .before .before .before .before .before .fill-rows .ensures) (c .before .enum-told2 .given .1) (c .before .before .before .before .before .before .before .before .before .pre) (search needs)
 
 same-length-2 : tie.Need-same-length-2
 same-length-2 c = search needs

@@ -1,6 +1,5 @@
 -- `grid::corner_spelling::spell_edges` meets its contract: the count is over where both n and m are above 33, and else the smallest size that
 -- has room is prepared. Assumes nothing.
-use native.Mathlib.Omega.{arith}
 use Rattle.grid.proofs.Builds.{build-over}
 use Rattle.grid.proofs.Corners.{corner-over, corner-ready, corner-last, corner-builds}
 use borrow.Author.Needs.{needs}

@@ -1,10 +1,9 @@
 -- `grid::corner_spelling::spell_in` meets its contract: by the table's answer and the numbers. Assumes nothing.
-use mathlib.Core.Path.{sym, _∙_}
+use mathlib.Core.Path.{_∙_}
 use borrow.Author.Tests.{not-true, not-false}
 use mathlib.Core.Bool.{true}
 use Rattle.grid.specs.Corners.{cornerPlan}
-use Rattle.grid.proofs.Laws.{cap-count, cap-over, count-over}
-use Rattle.grid.proofs.Phases.{ready-len}
+use Rattle.grid.proofs.Phases.{filled-over, filled-count, filled-full}
 use Rattle.grid.proofs.Builds.{below-told, for-over, for-beyond, for-all}
 use borrow.Author.Needs.{needs}
 use Rattle.grid.proofs.corner_spelling.spell_in.Statement.{statement}
@@ -25,7 +24,7 @@ same-length c = search needs
 
 returns : tie.Need-returns
 returns c =
-    for-over true (cornerPlan (c .before .before .before .before .before .before .before .before .before .before .args .c)) _ _ _ _ _ (cap-over _ (sym (c .before .before .before .before .fill-rows .ensures .answer) ∙ c .enum-told .given .1))
+    for-over true (cornerPlan (c .before .before .before .before .before .before .before .before .before .before .args .c)) _ _ _ _ _ (filled-over (c .before .before .before .before .fill-rows .ensures) (c .enum-told .given .1))
 
 all-below-requires : tie.Need-all-below-requires
 all-below-requires c κs = search needs
@@ -35,11 +34,11 @@ same-length-2 c = search needs
 
 returns-2 : tie.Need-returns-2
 returns-2 c =
-    for-beyond true (cornerPlan (c .before .before .before .before .before .before .before .before .before .before .before .before .before .args .c)) _ _ _ _ _ (cap-count _ _ (sym (c .before .before .before .before .before .before .before .fill-rows .ensures .answer) ∙ c .before .before .before .w .given .1) .1) (below-told (c .before .before .before .before .before .before .before .before .before .before .before .before .before .args .numbers .now) _ _ _ (sym (cap-count _ _ (sym (c .before .before .before .before .before .before .before .fill-rows .ensures .answer) ∙ c .before .before .before .w .given .1) .0)) (c .before .all-below .ensures) ∙ not-true _ (c .if1 .taken))
+    for-beyond true (cornerPlan (c .before .before .before .before .before .before .before .before .before .before .before .before .before .args .c)) _ _ _ _ _ (filled-count (c .before .before .before .before .before .before .before .fill-rows .ensures) (c .before .before .before .w .given .1) .1) (below-told (c .before .before .before .before .before .before .before .before .before .before .before .before .before .args .numbers .now) _ _ _ (filled-count (c .before .before .before .before .before .before .before .fill-rows .ensures) (c .before .before .before .w .given .1) .0) (c .before .all-below .ensures) ∙ not-true _ (c .if1 .taken))
 
 spell-all-requires : tie.Need-spell-all-requires
 spell-all-requires c κs =
-    (record { ready = ready-len (c .before .before .before .before .before .before .before .before .before .before .before .before .before .before .before .before .pre .0 .ready) (search needs); solid = c .before .before .before .before .before .before .before .before .before .before .fill-rows .ensures .solid (count-over (c .before .before .before .before .before .before .w .given .1)); fits = cap-count _ _ (sym (c .before .before .before .before .before .before .before .before .before .before .fill-rows .ensures .answer) ∙ c .before .before .before .before .before .before .w .given .1) .1 }, below-told (c .before .before .before .before .before .before .before .before .before .before .before .before .before .before .before .before .args .numbers .now) _ _ _ (sym (cap-count _ _ (sym (c .before .before .before .before .before .before .before .before .before .before .fill-rows .ensures .answer) ∙ c .before .before .before .before .before .before .w .given .1) .0)) (c .before .before .before .before .all-below .ensures) ∙ not-false _ (c .before .before .before .if1 .left), c .before .before .before .before .before .before .before .before .before .before .before .before .before .before .before .before .pre .1)
+    (filled-full (c .before .before .before .before .before .before .before .before .before .before .fill-rows .ensures) (c .before .before .before .before .before .before .w .given .1) (c .before .before .before .before .before .before .before .before .before .before .before .before .before .before .before .before .pre .0) (search needs), below-told (c .before .before .before .before .before .before .before .before .before .before .before .before .before .before .before .before .args .numbers .now) _ _ _ (filled-count (c .before .before .before .before .before .before .before .before .before .before .fill-rows .ensures) (c .before .before .before .before .before .before .w .given .1) .0) (c .before .before .before .before .all-below .ensures) ∙ not-false _ (c .before .before .before .if1 .left), c .before .before .before .before .before .before .before .before .before .before .before .before .before .before .before .before .pre .1)
 
 same-length-3 : tie.Need-same-length-3
 same-length-3 c = search needs
@@ -52,7 +51,7 @@ same-length-5 c = search needs
 
 returns-3 : tie.Need-returns-3
 returns-3 c =
-    for-all true (cornerPlan (c .before .before .before .before .before .before .before .before .before .before .before .before .before .before .before .before .before .before .before .before .before .args .c)) _ _ _ _ _ _ _ _ (cap-count _ _ (sym (c .before .before .before .before .before .before .before .before .before .before .before .before .before .before .before .fill-rows .ensures .answer) ∙ c .before .before .before .before .before .before .before .before .before .before .before .w .given .1) .1) (below-told (c .before .before .before .before .before .before .before .before .before .before .before .before .before .before .before .before .before .before .before .before .before .args .numbers .now) _ _ _ (sym (cap-count _ _ (sym (c .before .before .before .before .before .before .before .before .before .before .before .before .before .before .before .fill-rows .ensures .answer) ∙ c .before .before .before .before .before .before .before .before .before .before .before .w .given .1) .0)) (c .before .before .before .before .before .before .before .before .before .all-below .ensures) ∙ not-false _ (c .before .before .before .before .before .before .before .before .if1 .left)) (c .before .before .before .before .spell-all .ensures)
+    for-all true (cornerPlan (c .before .before .before .before .before .before .before .before .before .before .before .before .before .before .before .before .before .before .before .before .before .args .c)) _ _ _ _ _ _ _ _ (filled-count (c .before .before .before .before .before .before .before .before .before .before .before .before .before .before .before .fill-rows .ensures) (c .before .before .before .before .before .before .before .before .before .before .before .w .given .1) .1) (below-told (c .before .before .before .before .before .before .before .before .before .before .before .before .before .before .before .before .before .before .before .before .before .args .numbers .now) _ _ _ (filled-count (c .before .before .before .before .before .before .before .before .before .before .before .before .before .before .before .fill-rows .ensures) (c .before .before .before .before .before .before .before .before .before .before .before .w .given .1) .0) (c .before .before .before .before .before .before .before .before .before .all-below .ensures) ∙ not-false _ (c .before .before .before .before .before .before .before .before .if1 .left)) (c .before .before .before .before .spell-all .ensures)
 
 pub spell-in-spec : {M : Type 1} → statement M
 spell-in-spec =

@@ -1,8 +1,6 @@
 -- `grid::numbering::number_in` meets its contract: by the table's answer and the edge read. Assumes nothing.
-use mathlib.Core.Path.{sym, _∙_}
 use mathlib.Core.Bool.{false}
-use Rattle.grid.proofs.Laws.{cap-count, cap-over, count-over}
-use Rattle.grid.proofs.Phases.{ready-len}
+use Rattle.grid.proofs.Phases.{filled-over, filled-full}
 use Rattle.grid.proofs.Tabled.{table-over}
 use borrow.Author.Needs.{needs}
 use Rattle.grid.proofs.numbering.number_in.Statement.{statement}
@@ -19,14 +17,14 @@ same-length c = search needs
 
 returns : tie.Need-returns
 returns c =
-    table-over false (c .before .before .before .before .before .before .before .before .args .p) _ _ _ (cap-over _ (sym (c .before .before .before .before .fill .ensures .answer) ∙ c .enum-told .given .1))
+    table-over false (c .before .before .before .before .before .before .before .before .args .p) _ _ _ (filled-over (c .before .before .before .before .fill .ensures) (c .enum-told .given .1))
 
 enum-told-2 : tie.Need-enum-told-2
 enum-told-2 c = search needs
 
 read-requires : tie.Need-read-requires
 read-requires c κs =
-    record { ready = ready-len (c .before .before .before .before .before .before .before .before .before .pre .ready) (search needs); solid = c .before .before .before .before .before .fill .ensures .solid (count-over (c .before .enum-told2 .given .1)); fits = cap-count _ _ (sym (c .before .before .before .before .before .fill .ensures .answer) ∙ c .before .enum-told2 .given .1) .1 }
+    filled-full (c .before .before .before .before .before .fill .ensures) (c .before .enum-told2 .given .1) (c .before .before .before .before .before .before .before .before .before .pre) (search needs)
 
 same-length-2 : tie.Need-same-length-2
 same-length-2 c = search needs

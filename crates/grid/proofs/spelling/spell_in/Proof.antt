@@ -1,9 +1,8 @@
 -- `grid::spelling::spell_in` meets its contract: by the table's answer and the numbers. Assumes nothing.
-use mathlib.Core.Path.{sym, _∙_}
+use mathlib.Core.Path.{_∙_}
 use mathlib.Core.Bool.{false}
 use borrow.Author.Tests.{not-true, not-false}
-use Rattle.grid.proofs.Laws.{cap-count, cap-over, count-over}
-use Rattle.grid.proofs.Phases.{ready-len}
+use Rattle.grid.proofs.Phases.{filled-over, filled-count, filled-full}
 use Rattle.grid.proofs.Builds.{below-told, for-over, for-beyond, for-all}
 use borrow.Author.Needs.{needs}
 use Rattle.grid.proofs.spelling.spell_in.Statement.{statement}
@@ -22,7 +21,8 @@ same-length : tie.Need-same-length
 same-length c = search needs
 
 returns : tie.Need-returns
-returns c = for-over false (c .before .before .before .before .before .before .before .before .before .before .args .p) _ _ _ _ _ (cap-over _ (sym (c .before .before .before .before .fill .ensures .answer) ∙ c .enum-told .given .1))
+returns c =
+    for-over false (c .before .before .before .before .before .before .before .before .before .before .args .p) _ _ _ _ _ (filled-over (c .before .before .before .before .fill .ensures) (c .enum-told .given .1))
 
 all-below-requires : tie.Need-all-below-requires
 all-below-requires c κs = search needs
@@ -31,10 +31,12 @@ same-length-2 : tie.Need-same-length-2
 same-length-2 c = search needs
 
 returns-2 : tie.Need-returns-2
-returns-2 c = for-beyond false (c .before .before .before .before .before .before .before .before .before .before .before .before .before .args .p) _ _ _ _ _ (cap-count _ _ (sym (c .before .before .before .before .before .before .before .fill .ensures .answer) ∙ c .before .before .before .c .given .1) .1) (below-told (c .before .before .before .before .before .before .before .before .before .before .before .before .before .args .numbers .now) _ _ _ (sym (cap-count _ _ (sym (c .before .before .before .before .before .before .before .fill .ensures .answer) ∙ c .before .before .before .c .given .1) .0)) (c .before .all-below .ensures) ∙ not-true _ (c .if1 .taken))
+returns-2 c =
+    for-beyond false (c .before .before .before .before .before .before .before .before .before .before .before .before .before .args .p) _ _ _ _ _ (filled-count (c .before .before .before .before .before .before .before .fill .ensures) (c .before .before .before .c .given .1) .1) (below-told (c .before .before .before .before .before .before .before .before .before .before .before .before .before .args .numbers .now) _ _ _ (filled-count (c .before .before .before .before .before .before .before .fill .ensures) (c .before .before .before .c .given .1) .0) (c .before .all-below .ensures) ∙ not-true _ (c .if1 .taken))
 
 spell-all-requires : tie.Need-spell-all-requires
-spell-all-requires c κs = (record { ready = ready-len (c .before .before .before .before .before .before .before .before .before .before .before .before .before .before .before .before .pre .0 .ready) (search needs); solid = c .before .before .before .before .before .before .before .before .before .before .fill .ensures .solid (count-over (c .before .before .before .before .before .before .c .given .1)); fits = cap-count _ _ (sym (c .before .before .before .before .before .before .before .before .before .before .fill .ensures .answer) ∙ c .before .before .before .before .before .before .c .given .1) .1 }, below-told (c .before .before .before .before .before .before .before .before .before .before .before .before .before .before .before .before .args .numbers .now) _ _ _ (sym (cap-count _ _ (sym (c .before .before .before .before .before .before .before .before .before .before .fill .ensures .answer) ∙ c .before .before .before .before .before .before .c .given .1) .0)) (c .before .before .before .before .all-below .ensures) ∙ not-false _ (c .before .before .before .if1 .left), c .before .before .before .before .before .before .before .before .before .before .before .before .before .before .before .before .pre .1)
+spell-all-requires c κs =
+    (filled-full (c .before .before .before .before .before .before .before .before .before .before .fill .ensures) (c .before .before .before .before .before .before .c .given .1) (c .before .before .before .before .before .before .before .before .before .before .before .before .before .before .before .before .pre .0) (search needs), below-told (c .before .before .before .before .before .before .before .before .before .before .before .before .before .before .before .before .args .numbers .now) _ _ _ (filled-count (c .before .before .before .before .before .before .before .before .before .before .fill .ensures) (c .before .before .before .before .before .before .c .given .1) .0) (c .before .before .before .before .all-below .ensures) ∙ not-false _ (c .before .before .before .if1 .left), c .before .before .before .before .before .before .before .before .before .before .before .before .before .before .before .before .pre .1)
 
 same-length-3 : tie.Need-same-length-3
 same-length-3 c = search needs
@@ -46,7 +48,8 @@ same-length-5 : tie.Need-same-length-5
 same-length-5 c = search needs
 
 returns-3 : tie.Need-returns-3
-returns-3 c = for-all false (c .before .before .before .before .before .before .before .before .before .before .before .before .before .before .before .before .before .before .before .before .before .args .p) _ _ _ _ _ _ _ _ (cap-count _ _ (sym (c .before .before .before .before .before .before .before .before .before .before .before .before .before .before .before .fill .ensures .answer) ∙ c .before .before .before .before .before .before .before .before .before .before .before .c .given .1) .1) (below-told (c .before .before .before .before .before .before .before .before .before .before .before .before .before .before .before .before .before .before .before .before .before .args .numbers .now) _ _ _ (sym (cap-count _ _ (sym (c .before .before .before .before .before .before .before .before .before .before .before .before .before .before .before .fill .ensures .answer) ∙ c .before .before .before .before .before .before .before .before .before .before .before .c .given .1) .0)) (c .before .before .before .before .before .before .before .before .before .all-below .ensures) ∙ not-false _ (c .before .before .before .before .before .before .before .before .if1 .left)) (c .before .before .before .before .spell-all .ensures)
+returns-3 c =
+    for-all false (c .before .before .before .before .before .before .before .before .before .before .before .before .before .before .before .before .before .before .before .before .before .args .p) _ _ _ _ _ _ _ _ (filled-count (c .before .before .before .before .before .before .before .before .before .before .before .before .before .before .before .fill .ensures) (c .before .before .before .before .before .before .before .before .before .before .before .c .given .1) .1) (below-told (c .before .before .before .before .before .before .before .before .before .before .before .before .before .before .before .before .before .before .before .before .before .args .numbers .now) _ _ _ (filled-count (c .before .before .before .before .before .before .before .before .before .before .before .before .before .before .before .fill .ensures) (c .before .before .before .before .before .before .before .before .before .before .before .c .given .1) .0) (c .before .before .before .before .before .before .before .before .before .all-below .ensures) ∙ not-false _ (c .before .before .before .before .before .before .before .before .if1 .left)) (c .before .before .before .before .spell-all .ensures)
 
 pub spell-in-spec : {M : Type 1} → statement M
 spell-in-spec =
