@@ -5,21 +5,23 @@
 --   Near, near                      what N and E bring to a cell can be read, and fits
 --   row-place, row-start, row-over, row-next    the loop along a row
 --   read-start                      the loop of `read`, before its first turn
---   not-left, not-north, not-east, not-any, not-there, not-across, not-under    where `read` finds that the bytes are no edge
---   Taken, north-taken, east-taken, across-taken    a step read
+--   not-left, not-north, not-east, not-across    where `read` finds that the bytes are no edge
+--   Taken, north-taken, east-taken, across-taken, across-far    a step read
 --   Given, Spelt, spelt-start, spelt-end, spelt-near, spelt-room    the loop of `spell`
 --   Put, north-put, east-put, across-put            a step written
-use mathlib.Core.Path.{_≡_, refl, sym, ap, _∙_}
-use mathlib.Core.Bool.{Bool, true, false, not}
+use mathlib.Core.Path.{_≡_, refl, sym, ap, _∙_, subst}
+use mathlib.Core.Bool.{Bool, true, false, not, _&&_}
 use mathlib.Core.List.{List}
 use Prim.Native.Nat.{ℕ, _+_, _-_, _*_, _^_, _≤_, _<_}
 use native.Mathlib.Omega.{arith}
-use native.Mathlib.Decide.{decLt}
-use lib.Dec.{T, ltb, eqb}
+use native.Mathlib.Decide.{decLt, ℕ-discrete}
+use lib.Dec.{T, ltb, leb, eqb, leb→le, eqb→eq}
 use lib.ListN.{length, getD, set, drop}
+use borrow.Author.Tests.{eq-eqb, le-leb}
 use Rattle.howmany.specs.Choose.{pick, bit}
 use Rattle.howmany.specs.Sum.{sum}
 use Rattle.howmany.proofs.Sums.{sum-mono}
+use Rattle.howmany.proofs.Choices.{is-true, holds, and-left, and-right}
 use Rattle.job.specs.Replies.{reply}
 use Rattle.job.specs.Replies.Reply.{refusal}
 use Rattle.letters.specs.Letters.{placeOf, glyphOf}
@@ -28,7 +30,7 @@ use Rattle.grid.specs.declared.corner.Corner.{Corner}
 use Rattle.grid.specs.Form.{wall, via}
 use Rattle.grid.specs.Cells.{place, sourceOf}
 use Rattle.grid.specs.Edges.{Reads, Sought}
-use Rattle.grid.specs.Corners.{cornerPlan, cornerRight, cornerUp, cornerBack, cornerEnd, cornerWalks, cornerNumber, cornerEdge, rises, CornerSizes, CornerFull, Within}
+use Rattle.grid.specs.Corners.{cornerPlan, cornerRight, cornerUp, cornerBack, cornerEnd, cornerWalks, cornerNumber, cornerEdge, rises, isAcross, CornerSizes, CornerFull, Within}
 use Rattle.grid.specs.Plans.{strideFor, cellsFor}
 use Rattle.grid.specs.Rows.{Rowing}
 use Rattle.grid.proofs.Walls.{wall-level}
@@ -205,30 +207,41 @@ module _ (c : Corner) {val e : List ℕ} {acc x y cell i : ℕ} (w : Walking tru
           east-taken = taken east-step refl eu eo (east-near .one)
 
       module _ (m : getD e (i - 1) 0 ≡ 69 → ⊥) where
-        pub not-any : (getD e (i - 1) 0 ≡ 68 → ⊥) → refusal 5 ≡ reply (cornerNumber c e)
-        not-any b = not-letter w h (place-no true _ refl n m b) level (two-there (c .diagonal) .1)
+        pub not-across : isAcross c (getD e (i - 1) 0) x y ≡ false → refusal 5 ≡ reply (cornerNumber c e)
+        not-across f = go (ℕ-discrete (getD e (i - 1) 0) 68) (c .diagonal) refl (decLt x 2) (decLt y 1)
+          where
+            go : Dec (getD e (i - 1) 0 ≡ 68) → (d : Bool) → c .diagonal ≡ d → Dec (x < 2) → Dec (y < 1) → refusal 5 ≡ reply (cornerNumber c e)
+            go (no b) d q s t = not-letter w h (place-no true _ refl n m b) level (two-there (c .diagonal) .1)
+            go (yes b) false q s t = not-letter w h (place-d true _ refl n m b) level (rw q (omega arith))
+            go (yes b) true q (yes s) t = not-right w h (place-d true _ refl n m b) level (rw q s)
+            go (yes b) true q (no s) (yes t) = not-up w h (place-d true _ refl n m b) level (rw q (omega arith)) (rw q t)
+            go (yes b) true q (no s) (no t) =
+                let g : true ≡ false = rw (eq-eqb (getD e (i - 1) 0) 68 b, le-leb 2 x (omega arith), le-leb 1 y (omega arith), q) at f in
+                absurd (subst T g tt)
 
-        module _ (b : getD e (i - 1) 0 ≡ 68) where
-          pub not-there : c .diagonal ≡ false → refusal 5 ≡ reply (cornerNumber c e)
-          not-there d = not-letter w h (place-d true _ refl n m b) level (rw d (omega arith))
+        module _ (t : isAcross c (getD e (i - 1) 0) x y ≡ true) {p o : ℕ} (ep : p ≡ getD (cornerBack c) 0 0) (eo : o ≡ getD (cornerBack c) 1 0) where
+          far : T (leb 2 x && (leb 1 y && c .diagonal))
+          far = and-right (eqb (getD e (i - 1) 0) 68) (leb 2 x && (leb 1 y && c .diagonal)) (holds t)
 
-          module _ (d : c .diagonal ≡ true) where
-            pub not-across : x < 2 → refusal 5 ≡ reply (cornerNumber c e)
-            not-across o = not-right w h (place-d true _ refl n m b) level (rw d o)
+          high : T (leb 1 y && c .diagonal)
+          high = and-right (leb 2 x) (leb 1 y && c .diagonal) far
 
-            module _ (qx : 2 ≤ x) where
-              pub not-under : y < 1 → refusal 5 ≡ reply (cornerNumber c e)
-              not-under o = not-up w h (place-d true _ refl n m b) level (rw d qx) (rw d o)
+          d : c .diagonal ≡ true
+          d = is-true (c .diagonal) (and-right (leb 1 y) (c .diagonal) high)
 
-              module _ (qy : 1 ≤ y) {p o : ℕ} (ep : p ≡ getD (cornerBack c) 0 0) (eo : o ≡ getD (cornerBack c) 1 0) where
-                across-step : Stepped true (cornerPlan c) (cornerRight c) (cornerUp c) (cornerBack c) val e acc x y cell i 2
-                across-step = stepped w h (place-d true _ refl n m b) level (rw d (omega arith)) (rw d qx) (rw d qy)
+          pub across-far : (2 ≤ x) × (1 ≤ y)
+          across-far = (leb→le 2 x (and-left (leb 2 x) (leb 1 y && c .diagonal) far), leb→le 1 y (and-left (leb 1 y) (c .diagonal) high))
 
-                pub across-near : Near c val x y cell p o
-                across-near = near c (across-step .reads) px ep eo
+          across-step : Stepped true (cornerPlan c) (cornerRight c) (cornerUp c) (cornerBack c) val e acc x y cell i 2
+          across-step =
+              let b = eqb→eq (getD e (i - 1) 0) 68 (and-left (eqb (getD e (i - 1) 0) 68) (leb 2 x && (leb 1 y && c .diagonal)) (holds t)) in
+              stepped w h (place-d true _ refl n m b) level (rw d (omega arith)) (rw d (across-far .0)) (rw d (across-far .1))
 
-                pub across-taken : Taken c val e acc x y cell i 2 1 (p + o) (getD val (cell - p) 0 + getD val (cell - o) 0)
-                across-taken = taken across-step (rw d refl) (rw d refl) (across-back c ep eo d) (across-near .both)
+          pub across-near : Near c val x y cell p o
+          across-near = near c (across-step .reads) px ep eo
+
+          pub across-taken : Taken c val e acc x y cell i 2 1 (p + o) (getD val (cell - p) 0 + getD val (cell - o) 0)
+          across-taken = taken across-step (rw d refl) (rw d refl) (across-back c ep eo d) (across-near .both)
 
 -- ---- the loop of `spell`, which doesn't keep the height
 

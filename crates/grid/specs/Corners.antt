@@ -6,14 +6,15 @@
 --   cornerRight, cornerUp c  its steps N, E and D: how far on, and how far up; N goes up, or E where n is below m
 --   cornerBack c             how far back each step's cells lie
 --   rises c                  how far up N goes: 1, or 0 where n is below m
+--   isAcross c b x y         the byte b is a D, and it can be the last step to (x, y)
 --   cornerEnd c              where the end's count stands in the table
 --   Within c                 n and m are at most 64
 --   CornerSizes, CornerReady, CornerBegun, CornerFull    SizesFor, PreparedFor, Begun and Full by that plan and these steps
 --   cornerWalks, cornerNumber, cornerEdge, CornerLists, CornerBuilds    walksFor, numberFor, edgeFor, ListsFor and BuildsFor by them
-use mathlib.Core.Bool.{true, not}
+use mathlib.Core.Bool.{Bool, true, not, _&&_}
 use mathlib.Core.List.{List, [], _∷_, map}
 use Prim.Native.Nat.{ℕ, _+_, _*_, _-_, _≤_}
-use lib.Dec.{eqb, ltb}
+use lib.Dec.{eqb, ltb, leb}
 use lib.ListN.{getD}
 use Rattle.howmany.specs.Choose.{pick, bit}
 use Rattle.rules.specs.Jobs as rules
@@ -59,6 +60,10 @@ cornerBack c = map (λ i. getD (cornerRight c) i 0 * strideFor (cornerPlan c) + 
 
 abbrev pub rises : Corner → ℕ
 rises c = getD (cornerUp c) 0 0
+
+-- "`D` (1,1)" is a step of family 3 only, and leads back by two columns and a height
+abbrev pub isAcross : Corner → ℕ → ℕ → ℕ → Bool
+isAcross c b x y = eqb b 68 && (leb 2 x && (leb 1 y && c .diagonal))
 
 abbrev pub cornerEnd : Corner → ℕ
 cornerEnd c = place 1 (cornerPlan c .ey) (c .n + c .m) (cornerPlan c .ey)

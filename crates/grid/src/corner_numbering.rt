@@ -3,7 +3,7 @@
 ghost use mathlib.Core.Path.{_≡_};
 ghost use Rattle.job.specs.Replies.{reply, numberSays};
 ghost use Rattle.grid.specs.Calls.{NumbersOf};
-ghost use Rattle.grid.specs.Corners.{cornerJob, cornerNumber, CornerBegun, CornerFull, CornerReady, Within};
+ghost use Rattle.grid.specs.Corners.{cornerJob, cornerNumber, isAcross, CornerBegun, CornerFull, CornerReady, Within};
 use crate::Answer;
 use crate::corner::Corner;
 use crate::corner::HIGHEST;
@@ -16,6 +16,22 @@ use crate::corner::rise_of;
 use crate::rows::fill_rows;
 use job::Numbered;
 use job::Step;
+
+// Whether the byte b is a D that can be the last step to (x, y).
+fn is_across(c: Corner, b: u8, x: usize, y: usize) -> bool
+    ensures { λ r. ⌜ r ≡ isAcross c b x y ⌝ }
+{
+    if b != Step::DIAGONAL {
+        return false;
+    }
+    if x < 2 {
+        return false;
+    }
+    if y < 1 {
+        return false;
+    }
+    c.diagonal
+}
 
 // The number of the edge e (000, algorithms 1 and 5), or refusal 5 where e is no edge. Until that is known the sum fits all the same: with
 // the walks to (x, y) it is no more than the count.
@@ -57,16 +73,7 @@ fn read(val: &[u64], c: Corner, e: &[u8]) -> Numbered
             at -= east;
             continue;
         }
-        if b != Step::DIAGONAL {
-            return Numbered::Refused(5);
-        }
-        if !c.diagonal {
-            return Numbered::Refused(5);
-        }
-        if x < 2 {
-            return Numbered::Refused(5);
-        }
-        if y < 1 {
+        if !is_across(c, b, x, y) {
             return Numbered::Refused(5);
         }
         acc += val[at - north] + val[at - east];

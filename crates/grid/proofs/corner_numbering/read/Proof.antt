@@ -1,12 +1,12 @@
 -- `grid::corner_numbering::read` meets its contract: at each step what is read so far and what is left make up the edge's validity and its
 -- number. Assumes nothing.
-use mathlib.Core.Path.{refl}
+use mathlib.Core.Path.{refl, sym, _∙_}
 use mathlib.Core.Bool.{true}
 use native.Mathlib.Omega.{arith}
 use borrow.Author.Tests.{not-true, not-false}
 use Rattle.grid.specs.Corners.{cornerPlan, cornerRight, cornerUp, cornerBack}
 use Rattle.grid.proofs.Numbers.{Walking, last-in, ends-fit, not-start, walking-end}
-use Rattle.grid.proofs.Cornering.{east-up, back-small, read-start, not-left, not-north, north-taken, not-east, east-near, east-taken, not-any, not-there, not-across, not-under, across-near, across-taken}
+use Rattle.grid.proofs.Cornering.{east-up, back-small, read-start, not-left, not-north, north-taken, not-east, east-near, east-taken, not-across, across-far, across-near, across-taken}
 use Rattle.grid.proofs.corner_numbering.read.Statement.{statement}
 use Rattle.grid.proofs.corner_numbering.read.Tie as tie
 
@@ -109,81 +109,81 @@ loop-again-2 : tie.Need-loop-again-2 Inv-loop μ-loop
 loop-again-2 c =
     east-taken (c .before .before .before .before .before .before .before .before .before .before .before .before .before .before .before .before .args .c) (c .before .before .before .before .before .before .before .loop .inv) (c .before .before .before .before .before .before .loop-test .taken) (c .before .before .before .before .if1 .left) (c .before .before .before .if2 .left) (c .before .before .if4 .taken) (east-up (c .before .before .before .before .before .before .before .before .before .before .before .before .before .before .before .before .args .c) (c .before .before .before .before .before .before .before .before .before .before .before .before .before .rise-of .ensures) .1) (c .before .if5 .left) (c .before .before .before .before .before .before .before .before .before .before .before .before .north-of .ensures) (c .before .before .before .before .before .before .before .before .before .before .before .east-of .ensures) .next refl
 
+is-across-requires : tie.Need-is-across-requires Inv-loop μ-loop
+is-across-requires c κs =
+    tt
+
 returns-4 : tie.Need-returns-4 Inv-loop μ-loop
 returns-4 c =
-    not-any (c .before .before .before .before .before .before .before .before .before .before .before .before .before .before .before .args .c) (c .before .before .before .before .before .before .loop .inv) (c .before .before .before .before .before .loop-test .taken) (c .before .before .before .if1 .left) (c .before .before .if2 .left) (c .before .if4 .left) (c .if6 .taken)
-
-returns-5 : tie.Need-returns-5 Inv-loop μ-loop
-returns-5 c =
-    not-there (c .before .before .before .before .before .before .before .before .before .before .before .before .before .before .before .before .before .args .c) (c .before .before .before .before .before .before .before .before .loop .inv) (c .before .before .before .before .before .before .before .loop-test .taken) (c .before .before .before .before .before .if1 .left) (c .before .before .before .before .if2 .left) (c .before .before .before .if4 .left) (c .before .before .if6 .left) (not-true _ (c .if7 .taken))
-
-returns-6 : tie.Need-returns-6 Inv-loop μ-loop
-returns-6 c =
-    not-across (c .before .before .before .before .before .before .before .before .before .before .before .before .before .before .before .before .before .before .args .c) (c .before .before .before .before .before .before .before .before .before .loop .inv) (c .before .before .before .before .before .before .before .before .loop-test .taken) (c .before .before .before .before .before .before .if1 .left) (c .before .before .before .before .before .if2 .left) (c .before .before .before .before .if4 .left) (c .before .before .before .if6 .left) (not-false _ (c .before .if7 .left)) (c .if8 .taken)
-
-returns-7 : tie.Need-returns-7 Inv-loop μ-loop
-returns-7 c =
-    not-under (c .before .before .before .before .before .before .before .before .before .before .before .before .before .before .before .before .before .before .before .args .c) (c .before .before .before .before .before .before .before .before .before .before .loop .inv) (c .before .before .before .before .before .before .before .before .before .loop-test .taken) (c .before .before .before .before .before .before .before .if1 .left) (c .before .before .before .before .before .before .if2 .left) (c .before .before .before .before .before .if4 .left) (c .before .before .before .before .if6 .left) (not-false _ (c .before .before .if7 .left)) (c .before .if8 .left) (c .if9 .taken)
+    not-across (c .before .before .before .before .before .before .before .before .before .before .before .before .before .before .before .before .args .c) (c .before .before .before .before .before .before .before .loop .inv) (c .before .before .before .before .before .before .loop-test .taken) (c .before .before .before .before .if1 .left) (c .before .before .before .if2 .left) (c .before .before .if4 .left) (sym (c .before .is-across .ensures) ∙ not-true _ (c .if6 .taken))
 
 sub-acc-2 : tie.Need-sub-acc-2 Inv-loop μ-loop
 sub-acc-2 c =
-    across-near (c .before .before .before .before .before .before .before .before .before .before .before .before .before .before .before .before .before .before .before .args .c) (c .before .before .before .before .before .before .before .before .before .before .loop .inv) (c .before .before .before .before .before .before .before .before .before .loop-test .taken) (c .before .before .before .before .before .before .before .if1 .left) (c .before .before .before .before .before .before .if2 .left) (c .before .before .before .before .before .if4 .left) (c .before .before .before .before .if6 .left) (not-false _ (c .before .before .if7 .left)) (c .before .if8 .left) (c .if9 .left) (c .before .before .before .before .before .before .before .before .before .before .before .before .before .before .before .north-of .ensures) (c .before .before .before .before .before .before .before .before .before .before .before .before .before .before .east-of .ensures) .north-back
+    across-near (c .before .before .before .before .before .before .before .before .before .before .before .before .before .before .before .before .args .c) (c .before .before .before .before .before .before .before .loop .inv) (c .before .before .before .before .before .before .loop-test .taken) (c .before .before .before .before .if1 .left) (c .before .before .before .if2 .left) (c .before .before .if4 .left) (sym (c .before .is-across .ensures) ∙ not-false _ (c .if6 .left)) (c .before .before .before .before .before .before .before .before .before .before .before .before .north-of .ensures) (c .before .before .before .before .before .before .before .before .before .before .before .east-of .ensures) .north-back
 
 mul-acc-2 : tie.Need-mul-acc-2 Inv-loop μ-loop
 mul-acc-2 c =
-    let h = across-near (c .before .before .before .before .before .before .before .before .before .before .before .before .before .before .before .before .before .before .before .args .c) (c .before .before .before .before .before .before .before .before .before .before .loop .inv) (c .before .before .before .before .before .before .before .before .before .loop-test .taken) (c .before .before .before .before .before .before .before .if1 .left) (c .before .before .before .before .before .before .if2 .left) (c .before .before .before .before .before .if4 .left) (c .before .before .before .before .if6 .left) (not-false _ (c .before .before .if7 .left)) (c .before .if8 .left) (c .if9 .left) (c .before .before .before .before .before .before .before .before .before .before .before .before .before .before .before .north-of .ensures) (c .before .before .before .before .before .before .before .before .before .before .before .before .before .before .east-of .ensures) .north-in in omega arith
+    let h = across-near (c .before .before .before .before .before .before .before .before .before .before .before .before .before .before .before .before .args .c) (c .before .before .before .before .before .before .before .loop .inv) (c .before .before .before .before .before .before .loop-test .taken) (c .before .before .before .before .if1 .left) (c .before .before .before .if2 .left) (c .before .before .if4 .left) (sym (c .before .is-across .ensures) ∙ not-false _ (c .if6 .left)) (c .before .before .before .before .before .before .before .before .before .before .before .before .north-of .ensures) (c .before .before .before .before .before .before .before .before .before .before .before .east-of .ensures) .north-in in omega arith
 
 shared-slice-read-acc-2 : tie.Need-shared-slice-read-acc-2 Inv-loop μ-loop
 shared-slice-read-acc-2 c =
-    across-near (c .before .before .before .before .before .before .before .before .before .before .before .before .before .before .before .before .before .before .before .before .args .c) (c .before .before .before .before .before .before .before .before .before .before .before .loop .inv) (c .before .before .before .before .before .before .before .before .before .before .loop-test .taken) (c .before .before .before .before .before .before .before .before .if1 .left) (c .before .before .before .before .before .before .before .if2 .left) (c .before .before .before .before .before .before .if4 .left) (c .before .before .before .before .before .if6 .left) (not-false _ (c .before .before .before .if7 .left)) (c .before .before .if8 .left) (c .before .if9 .left) (c .before .before .before .before .before .before .before .before .before .before .before .before .before .before .before .before .north-of .ensures) (c .before .before .before .before .before .before .before .before .before .before .before .before .before .before .before .east-of .ensures) .north-in
+    across-near (c .before .before .before .before .before .before .before .before .before .before .before .before .before .before .before .before .before .args .c) (c .before .before .before .before .before .before .before .before .loop .inv) (c .before .before .before .before .before .before .before .loop-test .taken) (c .before .before .before .before .before .if1 .left) (c .before .before .before .before .if2 .left) (c .before .before .before .if4 .left) (sym (c .before .before .is-across .ensures) ∙ not-false _ (c .before .if6 .left)) (c .before .before .before .before .before .before .before .before .before .before .before .before .before .north-of .ensures) (c .before .before .before .before .before .before .before .before .before .before .before .before .east-of .ensures) .north-in
 
 sub-acc-3 : tie.Need-sub-acc-3 Inv-loop μ-loop
 sub-acc-3 c =
-    across-near (c .before .before .before .before .before .before .before .before .before .before .before .before .before .before .before .before .before .before .before .before .args .c) (c .before .before .before .before .before .before .before .before .before .before .before .loop .inv) (c .before .before .before .before .before .before .before .before .before .before .loop-test .taken) (c .before .before .before .before .before .before .before .before .if1 .left) (c .before .before .before .before .before .before .before .if2 .left) (c .before .before .before .before .before .before .if4 .left) (c .before .before .before .before .before .if6 .left) (not-false _ (c .before .before .before .if7 .left)) (c .before .before .if8 .left) (c .before .if9 .left) (c .before .before .before .before .before .before .before .before .before .before .before .before .before .before .before .before .north-of .ensures) (c .before .before .before .before .before .before .before .before .before .before .before .before .before .before .before .east-of .ensures) .east-back
+    across-near (c .before .before .before .before .before .before .before .before .before .before .before .before .before .before .before .before .before .args .c) (c .before .before .before .before .before .before .before .before .loop .inv) (c .before .before .before .before .before .before .before .loop-test .taken) (c .before .before .before .before .before .if1 .left) (c .before .before .before .before .if2 .left) (c .before .before .before .if4 .left) (sym (c .before .before .is-across .ensures) ∙ not-false _ (c .before .if6 .left)) (c .before .before .before .before .before .before .before .before .before .before .before .before .before .north-of .ensures) (c .before .before .before .before .before .before .before .before .before .before .before .before .east-of .ensures) .east-back
 
 mul-acc-3 : tie.Need-mul-acc-3 Inv-loop μ-loop
 mul-acc-3 c =
-    let h = across-near (c .before .before .before .before .before .before .before .before .before .before .before .before .before .before .before .before .before .before .before .before .args .c) (c .before .before .before .before .before .before .before .before .before .before .before .loop .inv) (c .before .before .before .before .before .before .before .before .before .before .loop-test .taken) (c .before .before .before .before .before .before .before .before .if1 .left) (c .before .before .before .before .before .before .before .if2 .left) (c .before .before .before .before .before .before .if4 .left) (c .before .before .before .before .before .if6 .left) (not-false _ (c .before .before .before .if7 .left)) (c .before .before .if8 .left) (c .before .if9 .left) (c .before .before .before .before .before .before .before .before .before .before .before .before .before .before .before .before .north-of .ensures) (c .before .before .before .before .before .before .before .before .before .before .before .before .before .before .before .east-of .ensures) .east-in in omega arith
+    let h = across-near (c .before .before .before .before .before .before .before .before .before .before .before .before .before .before .before .before .before .args .c) (c .before .before .before .before .before .before .before .before .loop .inv) (c .before .before .before .before .before .before .before .loop-test .taken) (c .before .before .before .before .before .if1 .left) (c .before .before .before .before .if2 .left) (c .before .before .before .if4 .left) (sym (c .before .before .is-across .ensures) ∙ not-false _ (c .before .if6 .left)) (c .before .before .before .before .before .before .before .before .before .before .before .before .before .north-of .ensures) (c .before .before .before .before .before .before .before .before .before .before .before .before .east-of .ensures) .east-in in omega arith
 
 shared-slice-read-acc-3 : tie.Need-shared-slice-read-acc-3 Inv-loop μ-loop
 shared-slice-read-acc-3 c =
-    across-near (c .before .before .before .before .before .before .before .before .before .before .before .before .before .before .before .before .before .before .before .before .before .args .c) (c .before .before .before .before .before .before .before .before .before .before .before .before .loop .inv) (c .before .before .before .before .before .before .before .before .before .before .before .loop-test .taken) (c .before .before .before .before .before .before .before .before .before .if1 .left) (c .before .before .before .before .before .before .before .before .if2 .left) (c .before .before .before .before .before .before .before .if4 .left) (c .before .before .before .before .before .before .if6 .left) (not-false _ (c .before .before .before .before .if7 .left)) (c .before .before .before .if8 .left) (c .before .before .if9 .left) (c .before .before .before .before .before .before .before .before .before .before .before .before .before .before .before .before .before .north-of .ensures) (c .before .before .before .before .before .before .before .before .before .before .before .before .before .before .before .before .east-of .ensures) .east-in
+    across-near (c .before .before .before .before .before .before .before .before .before .before .before .before .before .before .before .before .before .before .args .c) (c .before .before .before .before .before .before .before .before .before .loop .inv) (c .before .before .before .before .before .before .before .before .loop-test .taken) (c .before .before .before .before .before .before .if1 .left) (c .before .before .before .before .before .if2 .left) (c .before .before .before .before .if4 .left) (sym (c .before .before .before .is-across .ensures) ∙ not-false _ (c .before .before .if6 .left)) (c .before .before .before .before .before .before .before .before .before .before .before .before .before .before .north-of .ensures) (c .before .before .before .before .before .before .before .before .before .before .before .before .before .east-of .ensures) .east-in
 
 add-acc-2 : tie.Need-add-acc-2 Inv-loop μ-loop
 add-acc-2 c =
-    record { fits = across-near (c .before .before .before .before .before .before .before .before .before .before .before .before .before .before .before .before .before .before .before .before .before .args .c) (c .before .before .before .before .before .before .before .before .before .before .before .before .loop .inv) (c .before .before .before .before .before .before .before .before .before .before .before .loop-test .taken) (c .before .before .before .before .before .before .before .before .before .if1 .left) (c .before .before .before .before .before .before .before .before .if2 .left) (c .before .before .before .before .before .before .before .if4 .left) (c .before .before .before .before .before .before .if6 .left) (not-false _ (c .before .before .before .before .if7 .left)) (c .before .before .before .if8 .left) (c .before .before .if9 .left) (c .before .before .before .before .before .before .before .before .before .before .before .before .before .before .before .before .before .north-of .ensures) (c .before .before .before .before .before .before .before .before .before .before .before .before .before .before .before .before .east-of .ensures) .fits }
+    record { fits = across-near (c .before .before .before .before .before .before .before .before .before .before .before .before .before .before .before .before .before .before .args .c) (c .before .before .before .before .before .before .before .before .before .loop .inv) (c .before .before .before .before .before .before .before .before .loop-test .taken) (c .before .before .before .before .before .before .if1 .left) (c .before .before .before .before .before .if2 .left) (c .before .before .before .before .if4 .left) (sym (c .before .before .before .is-across .ensures) ∙ not-false _ (c .before .before .if6 .left)) (c .before .before .before .before .before .before .before .before .before .before .before .before .before .before .north-of .ensures) (c .before .before .before .before .before .before .before .before .before .before .before .before .before .east-of .ensures) .fits }
 
 add-acc-3 : tie.Need-add-acc-3 Inv-loop μ-loop
 add-acc-3 c =
-    record { fits = across-taken (c .before .before .before .before .before .before .before .before .before .before .before .before .before .before .before .before .before .before .before .before .before .args .c) (c .before .before .before .before .before .before .before .before .before .before .before .before .loop .inv) (c .before .before .before .before .before .before .before .before .before .before .before .loop-test .taken) (c .before .before .before .before .before .before .before .before .before .if1 .left) (c .before .before .before .before .before .before .before .before .if2 .left) (c .before .before .before .before .before .before .before .if4 .left) (c .before .before .before .before .before .before .if6 .left) (not-false _ (c .before .before .before .before .if7 .left)) (c .before .before .before .if8 .left) (c .before .before .if9 .left) (c .before .before .before .before .before .before .before .before .before .before .before .before .before .before .before .before .before .north-of .ensures) (c .before .before .before .before .before .before .before .before .before .before .before .before .before .before .before .before .east-of .ensures) .fits }
+    record { fits = across-taken (c .before .before .before .before .before .before .before .before .before .before .before .before .before .before .before .before .before .before .args .c) (c .before .before .before .before .before .before .before .before .before .loop .inv) (c .before .before .before .before .before .before .before .before .loop-test .taken) (c .before .before .before .before .before .before .if1 .left) (c .before .before .before .before .before .if2 .left) (c .before .before .before .before .if4 .left) (sym (c .before .before .before .is-across .ensures) ∙ not-false _ (c .before .before .if6 .left)) (c .before .before .before .before .before .before .before .before .before .before .before .before .before .before .north-of .ensures) (c .before .before .before .before .before .before .before .before .before .before .before .before .before .east-of .ensures) .fits }
+
+sub-x : tie.Need-sub-x Inv-loop μ-loop
+sub-x c =
+    across-far (c .before .before .before .before .before .before .before .before .before .before .before .before .before .before .before .before .before .before .args .c) (c .before .before .before .before .before .before .before .before .before .loop .inv) (c .before .before .before .before .before .before .before .before .loop-test .taken) (c .before .before .before .before .before .before .if1 .left) (c .before .before .before .before .before .if2 .left) (c .before .before .before .before .if4 .left) (sym (c .before .before .before .is-across .ensures) ∙ not-false _ (c .before .before .if6 .left)) (c .before .before .before .before .before .before .before .before .before .before .before .before .before .before .north-of .ensures) (c .before .before .before .before .before .before .before .before .before .before .before .before .before .east-of .ensures) .0
+
+sub-y : tie.Need-sub-y Inv-loop μ-loop
+sub-y c =
+    across-far (c .before .before .before .before .before .before .before .before .before .before .before .before .before .before .before .before .before .before .args .c) (c .before .before .before .before .before .before .before .before .before .loop .inv) (c .before .before .before .before .before .before .before .before .loop-test .taken) (c .before .before .before .before .before .before .if1 .left) (c .before .before .before .before .before .if2 .left) (c .before .before .before .before .if4 .left) (sym (c .before .before .before .is-across .ensures) ∙ not-false _ (c .before .before .if6 .left)) (c .before .before .before .before .before .before .before .before .before .before .before .before .before .before .north-of .ensures) (c .before .before .before .before .before .before .before .before .before .before .before .before .before .east-of .ensures) .1
 
 add-at : tie.Need-add-at Inv-loop μ-loop
 add-at c =
-    record { fits = back-small (c .before .before .before .before .before .before .before .before .before .before .before .before .before .before .before .before .before .before .before .before .before .args .c) (c .before .before .before .before .before .before .before .before .before .before .before .before .before .before .before .before .before .before .before .before .before .pre .ready .sizes) (c .before .before .before .before .before .before .before .before .before .before .before .before .before .before .before .before .before .north-of .ensures) (c .before .before .before .before .before .before .before .before .before .before .before .before .before .before .before .before .east-of .ensures) }
+    record { fits = back-small (c .before .before .before .before .before .before .before .before .before .before .before .before .before .before .before .before .before .before .args .c) (c .before .before .before .before .before .before .before .before .before .before .before .before .before .before .before .before .before .before .pre .ready .sizes) (c .before .before .before .before .before .before .before .before .before .before .before .before .before .before .north-of .ensures) (c .before .before .before .before .before .before .before .before .before .before .before .before .before .east-of .ensures) }
 
 sub-at-3 : tie.Need-sub-at-3 Inv-loop μ-loop
 sub-at-3 c =
-    across-taken (c .before .before .before .before .before .before .before .before .before .before .before .before .before .before .before .before .before .before .before .before .before .args .c) (c .before .before .before .before .before .before .before .before .before .before .before .before .loop .inv) (c .before .before .before .before .before .before .before .before .before .before .before .loop-test .taken) (c .before .before .before .before .before .before .before .before .before .if1 .left) (c .before .before .before .before .before .before .before .before .if2 .left) (c .before .before .before .before .before .before .before .if4 .left) (c .before .before .before .before .before .before .if6 .left) (not-false _ (c .before .before .before .before .if7 .left)) (c .before .before .before .if8 .left) (c .before .before .if9 .left) (c .before .before .before .before .before .before .before .before .before .before .before .before .before .before .before .before .before .north-of .ensures) (c .before .before .before .before .before .before .before .before .before .before .before .before .before .before .before .before .east-of .ensures) .far
+    across-taken (c .before .before .before .before .before .before .before .before .before .before .before .before .before .before .before .before .before .before .args .c) (c .before .before .before .before .before .before .before .before .before .loop .inv) (c .before .before .before .before .before .before .before .before .loop-test .taken) (c .before .before .before .before .before .before .if1 .left) (c .before .before .before .before .before .if2 .left) (c .before .before .before .before .if4 .left) (sym (c .before .before .before .is-across .ensures) ∙ not-false _ (c .before .before .if6 .left)) (c .before .before .before .before .before .before .before .before .before .before .before .before .before .before .north-of .ensures) (c .before .before .before .before .before .before .before .before .before .before .before .before .before .east-of .ensures) .far
 
 loop-less-3 : tie.Need-loop-less-3 Inv-loop μ-loop
 loop-less-3 c =
-    across-taken (c .before .before .before .before .before .before .before .before .before .before .before .before .before .before .before .before .before .before .before .before .before .args .c) (c .before .before .before .before .before .before .before .before .before .before .before .before .loop .inv) (c .before .before .before .before .before .before .before .before .before .before .before .loop-test .taken) (c .before .before .before .before .before .before .before .before .before .if1 .left) (c .before .before .before .before .before .before .before .before .if2 .left) (c .before .before .before .before .before .before .before .if4 .left) (c .before .before .before .before .before .before .if6 .left) (not-false _ (c .before .before .before .before .if7 .left)) (c .before .before .before .if8 .left) (c .before .before .if9 .left) (c .before .before .before .before .before .before .before .before .before .before .before .before .before .before .before .before .before .north-of .ensures) (c .before .before .before .before .before .before .before .before .before .before .before .before .before .before .before .before .east-of .ensures) .fewer
+    across-taken (c .before .before .before .before .before .before .before .before .before .before .before .before .before .before .before .before .before .before .args .c) (c .before .before .before .before .before .before .before .before .before .loop .inv) (c .before .before .before .before .before .before .before .before .loop-test .taken) (c .before .before .before .before .before .before .if1 .left) (c .before .before .before .before .before .if2 .left) (c .before .before .before .before .if4 .left) (sym (c .before .before .before .is-across .ensures) ∙ not-false _ (c .before .before .if6 .left)) (c .before .before .before .before .before .before .before .before .before .before .before .before .before .before .north-of .ensures) (c .before .before .before .before .before .before .before .before .before .before .before .before .before .east-of .ensures) .fewer
 
 loop-again-3 : tie.Need-loop-again-3 Inv-loop μ-loop
 loop-again-3 c =
-    across-taken (c .before .before .before .before .before .before .before .before .before .before .before .before .before .before .before .before .before .before .before .before .before .args .c) (c .before .before .before .before .before .before .before .before .before .before .before .before .loop .inv) (c .before .before .before .before .before .before .before .before .before .before .before .loop-test .taken) (c .before .before .before .before .before .before .before .before .before .if1 .left) (c .before .before .before .before .before .before .before .before .if2 .left) (c .before .before .before .before .before .before .before .if4 .left) (c .before .before .before .before .before .before .if6 .left) (not-false _ (c .before .before .before .before .if7 .left)) (c .before .before .before .if8 .left) (c .before .before .if9 .left) (c .before .before .before .before .before .before .before .before .before .before .before .before .before .before .before .before .before .north-of .ensures) (c .before .before .before .before .before .before .before .before .before .before .before .before .before .before .before .before .east-of .ensures) .next refl
+    across-taken (c .before .before .before .before .before .before .before .before .before .before .before .before .before .before .before .before .before .before .args .c) (c .before .before .before .before .before .before .before .before .before .loop .inv) (c .before .before .before .before .before .before .before .before .loop-test .taken) (c .before .before .before .before .before .before .if1 .left) (c .before .before .before .before .before .if2 .left) (c .before .before .before .before .if4 .left) (sym (c .before .before .before .is-across .ensures) ∙ not-false _ (c .before .before .if6 .left)) (c .before .before .before .before .before .before .before .before .before .before .before .before .before .before .north-of .ensures) (c .before .before .before .before .before .before .before .before .before .before .before .before .before .east-of .ensures) .next refl
 
-add-if10 : tie.Need-add-if10 Inv-loop μ-loop
-add-if10 c =
+add-if7 : tie.Need-add-if7 Inv-loop μ-loop
+add-if7 c =
     record { fits = ends-fit (c .before .loop .inv) }
 
-returns-8 : tie.Need-returns-8 Inv-loop μ-loop
-returns-8 c =
-    not-start (c .before .before .loop .inv) (c .before .loop-test .left) (c .if10 .taken)
+returns-5 : tie.Need-returns-5 Inv-loop μ-loop
+returns-5 c =
+    not-start (c .before .before .loop .inv) (c .before .loop-test .left) (c .if7 .taken)
 
-returns-9 : tie.Need-returns-9 Inv-loop μ-loop
-returns-9 c =
-    walking-end (c .before .before .loop .inv) (c .before .loop-test .left) (c .if10 .left)
+returns-6 : tie.Need-returns-6 Inv-loop μ-loop
+returns-6 c =
+    walking-end (c .before .before .loop .inv) (c .before .loop-test .left) (c .if7 .left)
 
 pub read-spec : {M : Type 1} → statement M
 read-spec =
@@ -214,10 +214,8 @@ read-spec =
     sub-at-2
     loop-less-2
     loop-again-2
+    is-across-requires
     returns-4
-    returns-5
-    returns-6
-    returns-7
     sub-acc-2
     mul-acc-2
     shared-slice-read-acc-2
@@ -226,10 +224,12 @@ read-spec =
     shared-slice-read-acc-3
     add-acc-2
     add-acc-3
+    sub-x
+    sub-y
     add-at
     sub-at-3
     loop-less-3
     loop-again-3
-    add-if10
-    returns-8
-    returns-9)
+    add-if7
+    returns-5
+    returns-6)
