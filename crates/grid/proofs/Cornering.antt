@@ -8,7 +8,7 @@
 --   not-left, not-north, not-east, not-across    where `read` finds that the bytes are no edge
 --   Taken, north-taken, east-taken, across-taken, across-far    a step read
 --   Given, Spelt, spelt-start, spelt-end, spelt-near, spelt-room    the loop of `spell`
---   Put, north-put, east-put, across-put            a step written
+--   Added, north-added, east-added, across-added    a step written
 use mathlib.Core.Path.{_≡_, refl, sym, ap, _∙_, subst}
 use mathlib.Core.Bool.{Bool, true, false, not, _&&_}
 use mathlib.Core.List.{List}
@@ -87,6 +87,7 @@ module _ (c : Corner) where
 
 -- ---- what N and E bring
 
+-- n and o are how far back the cells of N and E lie
 pub record Near (c : Corner) (val : List ℕ) (x y cell n o : ℕ) : Type 0 where
   pub north-back : n ≤ cell
   pub east-back : o ≤ cell
@@ -158,6 +159,7 @@ module _ (c : Corner) {s : ℕ} (es : s ≡ strideFor (cornerPlan c)) where
 
 -- ---- the loop of `read`
 
+-- one step back, by (a, u) and o cells, with v more summed
 pub record Taken (c : Corner) (val e : List ℕ) (acc x y cell i a u o v : ℕ) : Type 0 where
   pub fewer : i - 1 < i
   pub far : o ≤ cell
@@ -255,11 +257,13 @@ pub record Given (c : Corner) (val : List ℕ) (r : ℕ) (buf : List ℕ) (n o x
   pub from : x ≡ c .n + c .m
   pub at : cell ≡ cornerEnd c
 
+-- the height is some y
 pub record Spelt (c : Corner) (val : List ℕ) (r : ℕ) (buf₀ buf : List ℕ) (x cell left s : ℕ) : Type 0 where
   pub y : ℕ
   pub writing : Writing true (cornerPlan c) (cornerRight c) (cornerUp c) (cornerBack c) val r buf₀ buf x y cell left s
 
-pub record Put (c : Corner) (val : List ℕ) (r : ℕ) (buf₀ buf : List ℕ) (x cell s g a o rest : ℕ) : Type 0 where
+-- the byte g written, and a columns and o cells back
+pub record Added (c : Corner) (val : List ℕ) (r : ℕ) (buf₀ buf : List ℕ) (x cell s g a o rest : ℕ) : Type 0 where
   pub right : a ≤ x
   pub far : o ≤ cell
   pub ahead : x - a < x
@@ -280,9 +284,9 @@ module _ (c : Corner) {val : List ℕ} {r : ℕ} {buf₀ : List ℕ} where
       pub spelt-room : (1 ≤ s) × (s - 1 < length buf)
       spelt-room = (omega (arith, w .writing .x-le), omega (arith, w .writing .x-le, w .writing .s-le, w .writing .room))
 
-      put : (l g a b rest : ℕ) → Sought (steps-via c x (w .y)) (cornerPlan c .k) left l rest → a ≡ getD (cornerRight c) l 0 → b ≡ getD (cornerBack c) l 0 → g ≡ glyphOf true l
-          → Put c val r buf₀ buf x cell s g a b rest
-      put l g a b rest so ea eb eg =
+      added : (l g a b rest : ℕ) → Sought (steps-via c x (w .y)) (cornerPlan c .k) left l rest → a ≡ getD (cornerRight c) l 0 → b ≡ getD (cornerBack c) l 0 → g ≡ glyphOf true l
+          → Added c val r buf₀ buf x cell s g a b rest
+      added l g a b rest so ea eb eg =
           let t = written (w .writing) px l rest so in
           record {
             right = omega (arith, ea, t .right);
@@ -291,10 +295,10 @@ module _ (c : Corner) {val : List ℕ} {r : ℕ} {buf₀ : List ℕ} where
             next = record { y = _; writing = write-as t ea eb eg };
           }
 
-      pub north-put : left < getD val (cell - p) 0 → Put c val r buf₀ buf x cell s 78 1 p left
+      pub north-added : left < getD val (cell - p) 0 → Added c val r buf₀ buf x cell s 78 1 p left
       unfolding sum
-      north-put l =
-          put 0 78 1 p left
+      north-added l =
+          added 0 78 1 p left
           (seek-here (steps-via c x (w .y)) 0 (cornerPlan c .k) left left (omega arith) (omega (arith, two-there (c .diagonal))) _ (spelt-near .north-is) l) refl ep (glyph-n true 0 refl refl)
 
       module _ (l : getD val (cell - p) 0 ≤ left) where
@@ -302,9 +306,9 @@ module _ (c : Corner) {val : List ℕ} {r : ℕ} {buf₀ : List ℕ} where
         unfolding sum
         past-north = omega (arith, spelt-near .one)
 
-        pub east-put : left - getD val (cell - p) 0 < getD val (cell - o) 0 → Put c val r buf₀ buf x cell s 69 1 o (left - getD val (cell - p) 0)
-        east-put q =
-            put 1 69 1 o _
+        pub east-added : left - getD val (cell - p) 0 < getD val (cell - o) 0 → Added c val r buf₀ buf x cell s 69 1 o (left - getD val (cell - p) 0)
+        east-added q =
+            added 1 69 1 o _
             (seek-here (steps-via c x (w .y)) 1 (cornerPlan c .k) _ left past-north (omega (arith, two-there (c .diagonal))) _ (spelt-near .east-is) q) refl eo (glyph-e true 1 refl (λ z. omega arith) refl)
 
         module _ (q : getD val (cell - o) 0 ≤ left - getD val (cell - p) 0) where
@@ -320,7 +324,7 @@ module _ (c : Corner) {val : List ℕ} {r : ℕ} {buf₀ : List ℕ} where
                   (omega (arith, past-east, sum-more (steps-via c x (w .y)) 2, left-of (w .writing) px, ap (λ (b : Bool). sum (steps-via c x (w .y)) (pick b 3 2)) e))
               go false e = absurd (seek-end (steps-via c x (w .y)) 2 (cornerPlan c .k) _ left past-east (two-there (c .diagonal) .0) (rw e (omega arith)) (left-of (w .writing) px))
 
-          pub across-put : Put c val r buf₀ buf x cell s 68 2 (p + o) (left - getD val (cell - p) 0 - getD val (cell - o) 0)
-          across-put =
+          pub across-added : Added c val r buf₀ buf x cell s 68 2 (p + o) (left - getD val (cell - p) 0 - getD val (cell - o) 0)
+          across-added =
               let d = third-there (c .diagonal) (across-sought .falls .inside) in
-              put 2 68 2 (p + o) _ across-sought (rw d refl) (across-back c ep eo d) (glyph-d true 2 refl (λ z. omega arith) (λ z. omega arith))
+              added 2 68 2 (p + o) _ across-sought (rw d refl) (across-back c ep eo d) (glyph-d true 2 refl (λ z. omega arith) (λ z. omega arith))

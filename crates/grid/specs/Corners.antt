@@ -55,9 +55,11 @@ cornerRight c = 1 ∷ 1 ∷ pick (c .diagonal) 2 100 ∷ 100 ∷ 100 ∷ 100 ∷
 abbrev pub cornerUp : Corner → List ℕ
 cornerUp c = bit (not (ltb (c .n) (c .m))) ∷ bit (ltb (c .n) (c .m)) ∷ bit (c .diagonal) ∷ 0 ∷ 0 ∷ 0 ∷ 0 ∷ 0 ∷ []
 
+-- a step (a,c) comes from a columns and c cells before
 abbrev pub cornerBack : Corner → List ℕ
 cornerBack c = map (λ i. getD (cornerRight c) i 0 * strideFor (cornerPlan c) + getD (cornerUp c) i 0) (0 ∷ 1 ∷ 2 ∷ 3 ∷ 4 ∷ 5 ∷ 6 ∷ 7 ∷ [])
 
+-- the height of N, the first step
 abbrev pub rises : Corner → ℕ
 rises c = getD (cornerUp c) 0 0
 
@@ -65,6 +67,7 @@ rises c = getD (cornerUp c) 0 0
 abbrev pub isAcross : Corner → ℕ → ℕ → ℕ → Bool
 isAcross c b x y = eqb b 68 && (leb 2 x && (leb 1 y && c .diagonal))
 
+-- the last cell of the last column
 abbrev pub cornerEnd : Corner → ℕ
 cornerEnd c = place 1 (cornerPlan c .ey) (c .n + c .m) (cornerPlan c .ey)
 
@@ -72,29 +75,38 @@ pub record Within (c : Corner) : Type 0 where
   pub n-most : c .n ≤ 64
   pub m-most : c .m ≤ 64
 
+-- bounds of the plan's numbers
 abbrev pub CornerSizes : Corner → Type 0
 CornerSizes c = SizesFor (cornerPlan c)
 
+-- all that filling asks, for a table of that size
 abbrev pub CornerReady : Corner → ℕ → Type 0
 CornerReady c size = PreparedFor (cornerPlan c) (cornerRight c) (cornerUp c) (cornerBack c) size
 
+-- a table of zeros, ready to be filled
 abbrev pub CornerBegun : Corner → List ℕ → Type 0
 CornerBegun c val = Begun (cornerPlan c) (cornerRight c) (cornerUp c) (cornerBack c) val
 
+-- a filled table, and the end's count fits
 abbrev pub CornerFull : Corner → List ℕ → Type 0
 CornerFull c val = Full (cornerPlan c) (cornerRight c) (cornerUp c) (cornerBack c) val
 
+-- how many walks lead to the end
 abbrev pub cornerWalks : Corner → ℕ
 cornerWalks c = walksFor (cornerPlan c) (cornerRight c) (cornerUp c)
 
+-- the number of the edge e, or refusal 4 or 5; its letters are N E D
 abbrev pub cornerNumber : Corner → List ℕ → Answer ℕ
 cornerNumber c e = numberFor true (cornerPlan c) (cornerRight c) (cornerUp c) e
 
+-- the edge of the number r
 abbrev pub cornerEdge : Corner → ℕ → List ℕ
 cornerEdge c r = edgeFor true (cornerPlan c) (cornerRight c) (cornerUp c) r
 
+-- the edges of the numbers ns written
 abbrev pub CornerLists : Corner → List ℕ → List ℕ → List ℕ → List ℕ → List ℕ → ℕ → Type 0
 CornerLists c ns steps ends after-steps after-ends at = ListsFor true (cornerPlan c) (cornerRight c) (cornerUp c) ns steps ends after-steps after-ends at
 
+-- those edges written, or refusal 4 or 6
 abbrev pub CornerBuilds : Corner → List ℕ → List ℕ → List ℕ → List ℕ → List ℕ → Built → Type 0
 CornerBuilds c ns steps ends after-steps after-ends r = BuildsFor true (cornerPlan c) (cornerRight c) (cornerUp c) ns steps ends after-steps after-ends r

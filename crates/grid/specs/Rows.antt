@@ -41,6 +41,7 @@ pub record Cornered (k f : ℕ) (sa sc : List ℕ) (hi m ex ey : ℕ) : Type 0 w
   pub deep : m ≡ 1
   pub wide : ey ≤ ex
 
+-- the steps sa, sc are a corner's, and can reach the plan's end
 abbrev pub CorneredFor : Plan → List ℕ → List ℕ → Type 0
 CorneredFor p sa sc = Cornered (p .k) (p .f) sa sc (p .hi) (p .m) (p .ex) (p .ey)
 

@@ -1,4 +1,4 @@
-// The number of an edge: the table is filled once, so that refusal 4 goes before 5, and then the edge is read from its end.
+// The number of an edge of families 6 and 7: the table is filled once, so that refusal 4 goes before 5, and then the edge is read from its end.
 ghost use mathlib.Core.Path.{_≡_};
 ghost use mathlib.Core.Bool.{false};
 ghost use Rattle.job.specs.Replies.{reply, numberSays};

@@ -1,4 +1,4 @@
-// The table filled column by column: first without tests, and with flags from the first column that could need them.
+// The table of families 6 and 7 filled column by column: first without tests, and with flags from the first column that could need them.
 ghost use Prim.Native.Nat.{_+_};
 ghost use Rattle.grid.specs.Plans.{FlaggedFor, SpansFor};
 ghost use Rattle.grid.specs.Filling.{Begun, Before, After, Got, Resumed, Turn, Slow, Filled};

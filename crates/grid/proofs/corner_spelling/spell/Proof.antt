@@ -4,7 +4,7 @@ use mathlib.Core.Path.{_≡_, refl}
 use native.Mathlib.Omega.{arith}
 use lib.ListN.{length, length-set}
 use Rattle.grid.specs.declared.corner.Corner.{Corner}
-use Rattle.grid.proofs.Cornering.{back-small, Given, Spelt, spelt-start, spelt-room, spelt-near, north-put, east-put, across-put, spelt-end}
+use Rattle.grid.proofs.Cornering.{back-small, Given, Spelt, spelt-start, spelt-room, spelt-near, north-added, east-added, across-added, spelt-end}
 use Rattle.grid.proofs.corner_spelling.spell.Statement.{statement}
 use Rattle.grid.proofs.corner_spelling.spell.Tie as tie
 
@@ -61,15 +61,15 @@ sub-x c =
 
 sub-at : tie.Need-sub-at Inv-loop μ-loop
 sub-at c =
-    north-put (c .before .before .before .before .before .before .before .before .before .before .args .c) (c .before .before .before .loop .inv .1 (c .before .before .before .before .before .before .before .before .before .before .args .c) (record { full = c .before .before .before .before .before .before .before .before .before .before .pre .0; less = c .before .before .before .before .before .before .before .before .before .before .pre .1; long = c .before .before .before .before .before .before .before .before .before .before .pre .2; north = c .before .before .before .before .before .before .before .north-of .ensures; east = c .before .before .before .before .before .before .east-of .ensures; from = refl; at = c .before .before .before .before .end-of .ensures })) (c .before .before .loop-test .taken) (c .before .before .before .before .before .before .before .north-of .ensures) (c .before .before .before .before .before .before .east-of .ensures) (c .if1 .taken) .far
+    north-added (c .before .before .before .before .before .before .before .before .before .before .args .c) (c .before .before .before .loop .inv .1 (c .before .before .before .before .before .before .before .before .before .before .args .c) (record { full = c .before .before .before .before .before .before .before .before .before .before .pre .0; less = c .before .before .before .before .before .before .before .before .before .before .pre .1; long = c .before .before .before .before .before .before .before .before .before .before .pre .2; north = c .before .before .before .before .before .before .before .north-of .ensures; east = c .before .before .before .before .before .before .east-of .ensures; from = refl; at = c .before .before .before .before .end-of .ensures })) (c .before .before .loop-test .taken) (c .before .before .before .before .before .before .before .north-of .ensures) (c .before .before .before .before .before .before .east-of .ensures) (c .if1 .taken) .far
 
 loop-less : tie.Need-loop-less Inv-loop μ-loop
 loop-less c =
-    north-put (c .before .before .before .before .before .before .before .before .before .before .args .c) (c .before .before .before .loop .inv .1 (c .before .before .before .before .before .before .before .before .before .before .args .c) (record { full = c .before .before .before .before .before .before .before .before .before .before .pre .0; less = c .before .before .before .before .before .before .before .before .before .before .pre .1; long = c .before .before .before .before .before .before .before .before .before .before .pre .2; north = c .before .before .before .before .before .before .before .north-of .ensures; east = c .before .before .before .before .before .before .east-of .ensures; from = refl; at = c .before .before .before .before .end-of .ensures })) (c .before .before .loop-test .taken) (c .before .before .before .before .before .before .before .north-of .ensures) (c .before .before .before .before .before .before .east-of .ensures) (c .if1 .taken) .ahead
+    north-added (c .before .before .before .before .before .before .before .before .before .before .args .c) (c .before .before .before .loop .inv .1 (c .before .before .before .before .before .before .before .before .before .before .args .c) (record { full = c .before .before .before .before .before .before .before .before .before .before .pre .0; less = c .before .before .before .before .before .before .before .before .before .before .pre .1; long = c .before .before .before .before .before .before .before .before .before .before .pre .2; north = c .before .before .before .before .before .before .before .north-of .ensures; east = c .before .before .before .before .before .before .east-of .ensures; from = refl; at = c .before .before .before .before .end-of .ensures })) (c .before .before .loop-test .taken) (c .before .before .before .before .before .before .before .north-of .ensures) (c .before .before .before .before .before .before .east-of .ensures) (c .if1 .taken) .ahead
 
 loop-again : tie.Need-loop-again Inv-loop μ-loop
 loop-again c =
-    (simp length-set (c .before .before .before .loop .inv .0), λ C g. north-put C (c .before .before .before .loop .inv .1 C g) (c .before .before .loop-test .taken) (g .north) (g .east) (c .if1 .taken) .next)
+    (simp length-set (c .before .before .before .loop .inv .0), λ C g. north-added C (c .before .before .before .loop .inv .1 C g) (c .before .before .loop-test .taken) (g .north) (g .east) (c .if1 .taken) .next)
 
 sub-b : tie.Need-sub-b Inv-loop μ-loop
 sub-b c =
@@ -93,15 +93,15 @@ sub-x-2 c =
 
 sub-at-2 : tie.Need-sub-at-2 Inv-loop μ-loop
 sub-at-2 c =
-    east-put (c .before .before .before .before .before .before .before .before .before .before .before .before .args .c) (c .before .before .before .before .before .loop .inv .1 (c .before .before .before .before .before .before .before .before .before .before .before .before .args .c) (record { full = c .before .before .before .before .before .before .before .before .before .before .before .before .pre .0; less = c .before .before .before .before .before .before .before .before .before .before .before .before .pre .1; long = c .before .before .before .before .before .before .before .before .before .before .before .before .pre .2; north = c .before .before .before .before .before .before .before .before .before .north-of .ensures; east = c .before .before .before .before .before .before .before .before .east-of .ensures; from = refl; at = c .before .before .before .before .before .before .end-of .ensures })) (c .before .before .before .before .loop-test .taken) (c .before .before .before .before .before .before .before .before .before .north-of .ensures) (c .before .before .before .before .before .before .before .before .east-of .ensures) (c .before .before .if1 .left) (c .if2 .taken) .far
+    east-added (c .before .before .before .before .before .before .before .before .before .before .before .before .args .c) (c .before .before .before .before .before .loop .inv .1 (c .before .before .before .before .before .before .before .before .before .before .before .before .args .c) (record { full = c .before .before .before .before .before .before .before .before .before .before .before .before .pre .0; less = c .before .before .before .before .before .before .before .before .before .before .before .before .pre .1; long = c .before .before .before .before .before .before .before .before .before .before .before .before .pre .2; north = c .before .before .before .before .before .before .before .before .before .north-of .ensures; east = c .before .before .before .before .before .before .before .before .east-of .ensures; from = refl; at = c .before .before .before .before .before .before .end-of .ensures })) (c .before .before .before .before .loop-test .taken) (c .before .before .before .before .before .before .before .before .before .north-of .ensures) (c .before .before .before .before .before .before .before .before .east-of .ensures) (c .before .before .if1 .left) (c .if2 .taken) .far
 
 loop-less-2 : tie.Need-loop-less-2 Inv-loop μ-loop
 loop-less-2 c =
-    east-put (c .before .before .before .before .before .before .before .before .before .before .before .before .args .c) (c .before .before .before .before .before .loop .inv .1 (c .before .before .before .before .before .before .before .before .before .before .before .before .args .c) (record { full = c .before .before .before .before .before .before .before .before .before .before .before .before .pre .0; less = c .before .before .before .before .before .before .before .before .before .before .before .before .pre .1; long = c .before .before .before .before .before .before .before .before .before .before .before .before .pre .2; north = c .before .before .before .before .before .before .before .before .before .north-of .ensures; east = c .before .before .before .before .before .before .before .before .east-of .ensures; from = refl; at = c .before .before .before .before .before .before .end-of .ensures })) (c .before .before .before .before .loop-test .taken) (c .before .before .before .before .before .before .before .before .before .north-of .ensures) (c .before .before .before .before .before .before .before .before .east-of .ensures) (c .before .before .if1 .left) (c .if2 .taken) .ahead
+    east-added (c .before .before .before .before .before .before .before .before .before .before .before .before .args .c) (c .before .before .before .before .before .loop .inv .1 (c .before .before .before .before .before .before .before .before .before .before .before .before .args .c) (record { full = c .before .before .before .before .before .before .before .before .before .before .before .before .pre .0; less = c .before .before .before .before .before .before .before .before .before .before .before .before .pre .1; long = c .before .before .before .before .before .before .before .before .before .before .before .before .pre .2; north = c .before .before .before .before .before .before .before .before .before .north-of .ensures; east = c .before .before .before .before .before .before .before .before .east-of .ensures; from = refl; at = c .before .before .before .before .before .before .end-of .ensures })) (c .before .before .before .before .loop-test .taken) (c .before .before .before .before .before .before .before .before .before .north-of .ensures) (c .before .before .before .before .before .before .before .before .east-of .ensures) (c .before .before .if1 .left) (c .if2 .taken) .ahead
 
 loop-again-2 : tie.Need-loop-again-2 Inv-loop μ-loop
 loop-again-2 c =
-    (simp length-set (c .before .before .before .before .before .loop .inv .0), λ C g. east-put C (c .before .before .before .before .before .loop .inv .1 C g) (c .before .before .before .before .loop-test .taken) (g .north) (g .east) (c .before .before .if1 .left) (c .if2 .taken) .next)
+    (simp length-set (c .before .before .before .before .before .loop .inv .0), λ C g. east-added C (c .before .before .before .before .before .loop .inv .1 C g) (c .before .before .before .before .loop-test .taken) (g .north) (g .east) (c .before .before .if1 .left) (c .if2 .taken) .next)
 
 slice-write-buf-3 : tie.Need-slice-write-buf-3 Inv-loop μ-loop
 slice-write-buf-3 c =
@@ -109,7 +109,7 @@ slice-write-buf-3 c =
 
 sub-x-3 : tie.Need-sub-x-3 Inv-loop μ-loop
 sub-x-3 c =
-    across-put (c .before .before .before .before .before .before .before .before .before .before .before .before .args .c) (c .before .before .before .before .before .loop .inv .1 (c .before .before .before .before .before .before .before .before .before .before .before .before .args .c) (record { full = c .before .before .before .before .before .before .before .before .before .before .before .before .pre .0; less = c .before .before .before .before .before .before .before .before .before .before .before .before .pre .1; long = c .before .before .before .before .before .before .before .before .before .before .before .before .pre .2; north = c .before .before .before .before .before .before .before .before .before .north-of .ensures; east = c .before .before .before .before .before .before .before .before .east-of .ensures; from = refl; at = c .before .before .before .before .before .before .end-of .ensures })) (c .before .before .before .before .loop-test .taken) (c .before .before .before .before .before .before .before .before .before .north-of .ensures) (c .before .before .before .before .before .before .before .before .east-of .ensures) (c .before .before .if1 .left) (c .if2 .left) .right
+    across-added (c .before .before .before .before .before .before .before .before .before .before .before .before .args .c) (c .before .before .before .before .before .loop .inv .1 (c .before .before .before .before .before .before .before .before .before .before .before .before .args .c) (record { full = c .before .before .before .before .before .before .before .before .before .before .before .before .pre .0; less = c .before .before .before .before .before .before .before .before .before .before .before .before .pre .1; long = c .before .before .before .before .before .before .before .before .before .before .before .before .pre .2; north = c .before .before .before .before .before .before .before .before .before .north-of .ensures; east = c .before .before .before .before .before .before .before .before .east-of .ensures; from = refl; at = c .before .before .before .before .before .before .end-of .ensures })) (c .before .before .before .before .loop-test .taken) (c .before .before .before .before .before .before .before .before .before .north-of .ensures) (c .before .before .before .before .before .before .before .before .east-of .ensures) (c .before .before .if1 .left) (c .if2 .left) .right
 
 add-at : tie.Need-add-at Inv-loop μ-loop
 add-at c =
@@ -117,15 +117,15 @@ add-at c =
 
 sub-at-3 : tie.Need-sub-at-3 Inv-loop μ-loop
 sub-at-3 c =
-    across-put (c .before .before .before .before .before .before .before .before .before .before .before .before .args .c) (c .before .before .before .before .before .loop .inv .1 (c .before .before .before .before .before .before .before .before .before .before .before .before .args .c) (record { full = c .before .before .before .before .before .before .before .before .before .before .before .before .pre .0; less = c .before .before .before .before .before .before .before .before .before .before .before .before .pre .1; long = c .before .before .before .before .before .before .before .before .before .before .before .before .pre .2; north = c .before .before .before .before .before .before .before .before .before .north-of .ensures; east = c .before .before .before .before .before .before .before .before .east-of .ensures; from = refl; at = c .before .before .before .before .before .before .end-of .ensures })) (c .before .before .before .before .loop-test .taken) (c .before .before .before .before .before .before .before .before .before .north-of .ensures) (c .before .before .before .before .before .before .before .before .east-of .ensures) (c .before .before .if1 .left) (c .if2 .left) .far
+    across-added (c .before .before .before .before .before .before .before .before .before .before .before .before .args .c) (c .before .before .before .before .before .loop .inv .1 (c .before .before .before .before .before .before .before .before .before .before .before .before .args .c) (record { full = c .before .before .before .before .before .before .before .before .before .before .before .before .pre .0; less = c .before .before .before .before .before .before .before .before .before .before .before .before .pre .1; long = c .before .before .before .before .before .before .before .before .before .before .before .before .pre .2; north = c .before .before .before .before .before .before .before .before .before .north-of .ensures; east = c .before .before .before .before .before .before .before .before .east-of .ensures; from = refl; at = c .before .before .before .before .before .before .end-of .ensures })) (c .before .before .before .before .loop-test .taken) (c .before .before .before .before .before .before .before .before .before .north-of .ensures) (c .before .before .before .before .before .before .before .before .east-of .ensures) (c .before .before .if1 .left) (c .if2 .left) .far
 
 loop-less-3 : tie.Need-loop-less-3 Inv-loop μ-loop
 loop-less-3 c =
-    across-put (c .before .before .before .before .before .before .before .before .before .before .before .before .args .c) (c .before .before .before .before .before .loop .inv .1 (c .before .before .before .before .before .before .before .before .before .before .before .before .args .c) (record { full = c .before .before .before .before .before .before .before .before .before .before .before .before .pre .0; less = c .before .before .before .before .before .before .before .before .before .before .before .before .pre .1; long = c .before .before .before .before .before .before .before .before .before .before .before .before .pre .2; north = c .before .before .before .before .before .before .before .before .before .north-of .ensures; east = c .before .before .before .before .before .before .before .before .east-of .ensures; from = refl; at = c .before .before .before .before .before .before .end-of .ensures })) (c .before .before .before .before .loop-test .taken) (c .before .before .before .before .before .before .before .before .before .north-of .ensures) (c .before .before .before .before .before .before .before .before .east-of .ensures) (c .before .before .if1 .left) (c .if2 .left) .ahead
+    across-added (c .before .before .before .before .before .before .before .before .before .before .before .before .args .c) (c .before .before .before .before .before .loop .inv .1 (c .before .before .before .before .before .before .before .before .before .before .before .before .args .c) (record { full = c .before .before .before .before .before .before .before .before .before .before .before .before .pre .0; less = c .before .before .before .before .before .before .before .before .before .before .before .before .pre .1; long = c .before .before .before .before .before .before .before .before .before .before .before .before .pre .2; north = c .before .before .before .before .before .before .before .before .before .north-of .ensures; east = c .before .before .before .before .before .before .before .before .east-of .ensures; from = refl; at = c .before .before .before .before .before .before .end-of .ensures })) (c .before .before .before .before .loop-test .taken) (c .before .before .before .before .before .before .before .before .before .north-of .ensures) (c .before .before .before .before .before .before .before .before .east-of .ensures) (c .before .before .if1 .left) (c .if2 .left) .ahead
 
 loop-again-3 : tie.Need-loop-again-3 Inv-loop μ-loop
 loop-again-3 c =
-    (simp length-set (c .before .before .before .before .before .loop .inv .0), λ C g. across-put C (c .before .before .before .before .before .loop .inv .1 C g) (c .before .before .before .before .loop-test .taken) (g .north) (g .east) (c .before .before .if1 .left) (c .if2 .left) .next)
+    (simp length-set (c .before .before .before .before .before .loop .inv .0), λ C g. across-added C (c .before .before .before .before .before .loop .inv .1 C g) (c .before .before .before .before .loop-test .taken) (g .north) (g .east) (c .before .before .if1 .left) (c .if2 .left) .next)
 
 same-length : tie.Need-same-length Inv-loop μ-loop
 same-length c =
