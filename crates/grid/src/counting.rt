@@ -1,4 +1,5 @@
-// The count of families 6 and 7, in a table of the smallest of four sizes that has room: clearing the largest takes as long as filling a small one.
+// The count of families 6 and 7, in a table of the smallest of four sizes that has room: clearing the largest takes as long as filling a
+// small one.
 ghost use mathlib.Core.Path.{_≡_};
 ghost use Rattle.grid.specs.Plans.{Planned, PreparedFor, countFor};
 use crate::Answer;

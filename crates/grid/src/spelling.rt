@@ -1,4 +1,5 @@
-// The edges of a list of numbers of families 6 and 7: the table is filled once, so that refusal 4 goes before 6, and then each edge is spelt from its end.
+// The edges of a list of numbers of families 6 and 7: the table is filled once, so that refusal 4 goes before 6, and then each edge is spelt
+// from its end.
 ghost use mathlib.Core.Path.{_≡_};
 ghost use mathlib.Core.Bool.{true, false};
 ghost use Prim.Native.Nat.{_≤_, _<_};
