@@ -21,33 +21,48 @@ fn both(block: &[u8]) {
     say::width(block);
 }
 
+// A job of families 1 to 5.
+fn plain(family: u8, n: u8, m: u8) {
+    both(&corner(family, n, m));
+}
+
+// A job of families 6 and 7 with T.
+fn tee(family: u8, n: u8, m: u8) {
+    both(&with_t(family, n, m));
+}
+
+// A job of families 6 and 7 with k steps.
+fn stepped(family: u8, n: u8, m: u8, k: u8, p: [u8; 16]) {
+    both(&block(family, n, m, k, p));
+}
+
 fn lettered() {
-    both(&corner(1, 33, 34));
-    both(&corner(1, 34, 34));
-    both(&corner(1, 65, 0));
-    both(&corner(1, 0, 0));
-    both(&corner(1, 1, 1));
-    both(&corner(1, 3, 3));
+    plain(1, 33, 34);
+    plain(1, 34, 34);
+    plain(1, 65, 0);
+    plain(1, 0, 0);
+    plain(1, 1, 1);
+    plain(1, 3, 3);
 }
 
 fn squares() {
-    both(&corner(2, 36, 36));
-    both(&corner(2, 37, 37));
-    both(&corner(4, 28, 28));
-    both(&corner(4, 29, 29));
-    both(&corner(5, 45, 45));
-    both(&corner(5, 46, 46));
+    plain(2, 36, 36);
+    plain(2, 37, 37);
+    plain(4, 28, 28);
+    plain(4, 29, 29);
+    plain(5, 45, 45);
+    plain(5, 46, 46);
 }
 
 fn directed() {
-    both(&with_t(6, 3, 1));
-    both(&with_t(7, 3, 1));
-    both(&with_t(7, 2, 255));
-    both(&block(6, 32, 96, 7, SEVEN));
-    both(&block(6, 32, 0, 1, FLAT));
-    both(&block(6, 32, 1, 1, FLAT));
-    both(&block(7, 32, 16, 2, RISE));
-    both(&block(6, 32, 1, 8, EIGHT));
+    tee(6, 3, 1);
+    tee(7, 3, 1);
+    tee(7, 2, 255);
+    stepped(6, 32, 96, 7, SEVEN);
+    stepped(6, 32, 0, 1, FLAT);
+    stepped(6, 32, 1, 1, FLAT);
+    stepped(7, 32, 16, 2, RISE);
+    stepped(6, 32, 1, 8, EIGHT);
 }
 
 pub(crate) fn run() {

@@ -11,17 +11,18 @@ fn table(block: &[u8], rows: u64) {
     say::build(block, rows);
 }
 
+// All edges of a job of families 1 to 5.
+fn plain(title: &[u8], family: u8, n: u8, m: u8, rows: u64) {
+    say::text(title);
+    table(&corner(family, n, m), rows);
+}
+
 pub(crate) fn run() {
-    say::text(b"000, table 1\n");
-    table(&corner(1, 3, 3), 20);
-    say::text(b"000, table 2\n");
-    table(&corner(2, 3, 3), 5);
-    say::text(b"000, table 3\n");
-    table(&corner(3, 3, 2), 25);
-    say::text(b"000, table 4\n");
-    table(&corner(4, 3, 3), 22);
-    say::text(b"000, table 5\n");
-    table(&corner(5, 3, 3), 4);
+    plain(b"000, table 1\n", 1, 3, 3, 20);
+    plain(b"000, table 2\n", 2, 3, 3, 5);
+    plain(b"000, table 3\n", 3, 3, 2, 25);
+    plain(b"000, table 4\n", 4, 3, 3, 22);
+    plain(b"000, table 5\n", 5, 3, 3, 4);
     say::text(b"001, table 1\n");
     table(&with_t(6, 3, 1), 6);
 }

@@ -34,15 +34,22 @@ fn offsets() {
     change(30, 37);
 }
 
-fn lengths() {
+// The first n bytes of the pack.
+fn cut(n: usize) {
     let p = motzkin();
+    if n < 38 {
+        say::edge(&p[0..n], 0);
+    }
+}
+
+fn lengths() {
     say::text(b"the pack cut: 0, 4, 27, 28, 31, 37 bytes\n");
-    say::edge(&p[0..0], 0);
-    say::edge(&p[0..4], 0);
-    say::edge(&p[0..27], 0);
-    say::edge(&p[0..28], 0);
-    say::edge(&p[0..31], 0);
-    say::edge(&p[0..37], 0);
+    cut(0);
+    cut(4);
+    cut(27);
+    cut(28);
+    cut(31);
+    cut(37);
 }
 
 // A bad edge goes before a bad i.

@@ -3,31 +3,43 @@ use crate::jobs::corner;
 use crate::jobs::with_t;
 use crate::say;
 
+fn earlier<'a>(a: &'a [u8], b: &'a [u8]) {
+    say::earlier(&corner(2, 4, 4), a, b);
+}
+
 fn two() {
-    let job = corner(2, 4, 4);
     say::text(
         b"earlier of two Dyck edges: either way, equal, a bad first, a bad second, refused 4\n",
     );
-    say::earlier(&job, b"EENENENN", b"ENEEENNN");
-    say::earlier(&job, b"ENEEENNN", b"EENENENN");
-    say::earlier(&job, b"ENEEENNN", b"ENEEENNN");
-    say::earlier(&job, b"NEEEENNN", b"ENEEENNN");
-    say::earlier(&job, b"ENEEENNN", b"ENEEENN");
+    earlier(b"EENENENN", b"ENEEENNN");
+    earlier(b"ENEEENNN", b"EENENENN");
+    earlier(b"ENEEENNN", b"ENEEENNN");
+    earlier(b"NEEEENNN", b"ENEEENNN");
+    earlier(b"ENEEENNN", b"ENEEENN");
     say::earlier(&corner(2, 37, 37), b"EN", b"NE");
 }
 
+// A job with T.
+fn dip(family: u8, n: u8, m: u8, edge: &[u8]) {
+    say::dip(&with_t(family, n, m), edge);
+}
+
+// A job of families 1 to 5.
+fn plain_dip(family: u8, n: u8, m: u8, edge: &[u8]) {
+    say::dip(&corner(family, n, m), edge);
+}
+
 fn dips() {
-    let job = with_t(6, 3, 1);
     say::text(b"dips\n");
-    say::dip(&job, b"133");
-    say::dip(&job, b"313");
-    say::dip(&job, b"331");
-    say::dip(&job, b"322");
-    say::dip(&with_t(6, 4, 1), b"1233");
-    say::dip(&with_t(7, 3, 1), b"133");
-    say::dip(&corner(1, 1, 1), b"XX");
-    say::dip(&corner(2, 37, 37), b"EN");
-    say::dip(&corner(1, 65, 0), b"EN");
+    dip(6, 3, 1, b"133");
+    dip(6, 3, 1, b"313");
+    dip(6, 3, 1, b"331");
+    dip(6, 3, 1, b"322");
+    dip(6, 4, 1, b"1233");
+    dip(7, 3, 1, b"133");
+    plain_dip(1, 1, 1, b"XX");
+    plain_dip(2, 37, 37, b"EN");
+    plain_dip(1, 65, 0, b"EN");
 }
 
 pub(crate) fn run() {

@@ -4,17 +4,21 @@ use crate::jobs::empty_edges;
 use crate::jobs::twins;
 use crate::say;
 
+fn read_few(pack: &[u8]) {
+    say::edge(pack, 0);
+    say::edge(pack, 1);
+    say::edge(pack, 2);
+    say::edge(pack, 18446744073709551615);
+    say::repeat(pack);
+}
+
 fn few() {
     let mut out = [b'.'; 40];
     say::text(b"Motzkin 3, numbers 0 and 3\n");
-    say::write(&corner(5, 3, 3), &[0, 3], &mut out);
+    of_two(3, &mut out);
     say::text(&out[32..]);
     say::text(b"\n");
-    say::edge(&out[0..38], 0);
-    say::edge(&out[0..38], 1);
-    say::edge(&out[0..38], 2);
-    say::edge(&out[0..38], 18446744073709551615);
-    say::repeat(&out[0..38]);
+    read_few(&out[0..38]);
 }
 
 fn none() {
@@ -54,15 +58,25 @@ fn full() {
     many(201);
 }
 
+// A pack of one edge, number 0.
+fn of_one(family: u8, n: u8, m: u8, out: &mut [u8]) {
+    say::write(&corner(family, n, m), &[0], out);
+}
+
+// A pack of two edges of Motzkin 3, the number 0 and another.
+fn of_two(other: u64, out: &mut [u8]) {
+    say::write(&corner(5, 3, 3), &[0, other], out);
+}
+
 fn refused() {
     let mut out = [b'.'; 37];
     say::text(b"refused, and nothing is written: 1, 2, 3, 4, 6, 7\n");
-    say::write(&corner(8, 3, 3), &[0], &mut out);
-    say::write(&corner(1, 65, 0), &[0], &mut out);
+    of_one(8, 3, 3, &mut out);
+    of_one(1, 65, 0, &mut out);
     say::write(&twins(), &[0], &mut out);
-    say::write(&corner(2, 37, 37), &[0], &mut out);
-    say::write(&corner(5, 3, 3), &[0, 4], &mut out);
-    say::write(&corner(5, 3, 3), &[0, 3], &mut out);
+    of_one(2, 37, 37, &mut out);
+    of_two(4, &mut out);
+    of_two(3, &mut out);
     say::text(&out);
     say::text(b"\n");
 }
