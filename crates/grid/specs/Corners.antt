@@ -71,6 +71,7 @@ isAcross c b x y = eqb b 68 && (leb 2 x && (leb 1 y && c .diagonal))
 abbrev pub cornerEnd : Corner → ℕ
 cornerEnd c = place 1 (cornerPlan c .ey) (c .n + c .m) (cornerPlan c .ey)
 
+-- "n, m 0 to 64"
 pub record Within (c : Corner) : Type 0 where
   pub n-most : c .n ≤ 64
   pub m-most : c .m ≤ 64
