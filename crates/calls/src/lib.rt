@@ -18,6 +18,9 @@ pub fn count(block: &[u8]) -> Counted
     if job::is_square(block) {
         return arch::count(block);
     }
+    if job::is_corner(block) {
+        return rows::count(block);
+    }
     grid::count(block)
 }
 
@@ -48,6 +51,9 @@ pub fn number(block: &[u8], edge: &[u8]) -> Numbered
     if job::is_square(block) {
         return arch::number(block, edge);
     }
+    if job::is_corner(block) {
+        return rows::number(block, edge);
+    }
     grid::number(block, edge)
 }
 
@@ -58,6 +64,9 @@ pub fn build_all(block: &[u8], numbers: &[u64], steps: &mut [u8], ends: &mut [us
 {
     if job::is_square(block) {
         return arch::build_all(block, numbers, steps, ends);
+    }
+    if job::is_corner(block) {
+        return rows::build_all(block, numbers, steps, ends);
     }
     grid::build_all(block, numbers, steps, ends)
 }

@@ -17,7 +17,7 @@ use lib.ListN.{length, getD, set}
 use lib.Seq.{getD-set-same, getD-set-other}
 use borrow.Author.Count.{below-more}
 use Rattle.howmany.specs.Sum.{sum}
-use Rattle.grid.specs.Cells.{sourceOf, colOf, Run, Column}
+use Rattle.tables.specs.Cells.{sourceOf, colOf, Run, Column}
 
 term : (k : ℕ) (val₀ val sa off : List ℕ) (x d n i : ℕ) → Column k val₀ val sa off x d i → i < n → (j s : ℕ) → s ≡ sourceOf sa off x d j → s + n ≤ d
     → getD val₀ (sourceOf sa off x d j + i) 0 ≡ getD val (s + i) 0

@@ -11,13 +11,13 @@ use mathlib.Core.List.{List}
 use Prim.Native.Nat.{ℕ, _+_, _-_, _*_, _≤_, _<_}
 use native.Mathlib.Omega.{arith}
 use lib.ListN.{getD}
-use Rattle.grid.specs.declared.plan.Plan.{Plan}
-use Rattle.grid.specs.Cells.{place, Run, Column}
-use Rattle.grid.specs.Table.{From, To}
-use Rattle.grid.specs.Plans.{strideFor, TableFor}
-use Rattle.grid.specs.Filling.{Before, After}
-use Rattle.grid.proofs.Laws.{mul-bound}
-use Rattle.grid.proofs.Columns.{run-of, column-table, most-small, empty-table, empty-small, pow-small-4, pow-small-8}
+use Rattle.tables.specs.declared.Plan.{Plan}
+use Rattle.tables.specs.Cells.{place, Run, Column}
+use Rattle.tables.specs.Table.{From, To}
+use Rattle.tables.specs.Plans.{strideFor, TableFor}
+use Rattle.tables.specs.Filling.{Before, After}
+use Rattle.tables.proofs.Laws.{mul-bound}
+use Rattle.tables.proofs.Columns.{run-of, column-table, most-small, empty-table, empty-small, pow-small-4, pow-small-8}
 
 module _ {p : Plan} {sa sc off : List ℕ} {val : List ℕ} {x : ℕ} (b : Before p sa sc off val x) where
   pub wide-enough : (x + 1) * strideFor p ≤ 98 * 2001

@@ -3,7 +3,7 @@ ghost use mathlib.Core.Path.{_≡_};
 ghost use mathlib.Core.Bool.{true};
 ghost use Prim.Native.Nat.{ℕ, _+_, _≤_, _<_};
 ghost use lib.ListN.{length, getD};
-ghost use Rattle.grid.specs.Cells.{sourceOf, Run, Column};
+ghost use Rattle.tables.specs.Cells.{sourceOf, Run, Column};
 
 pub(crate) fn source(sa: &[usize; 8], off: &[usize; 8], i: usize, x: usize, p: usize) -> usize
     requires { ⌜ i < 8 ⌝ }

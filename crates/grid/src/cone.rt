@@ -2,8 +2,8 @@
 ghost use mathlib.Core.Path.{_≡_};
 ghost use Prim.Native.Nat.{_+_, _≤_, _<_};
 ghost use lib.ListN.{length};
-ghost use Rattle.grid.specs.Form.{wall};
-ghost use Rattle.grid.specs.Table.{Fence, From, Roof, To, Spans};
+ghost use Rattle.tables.specs.Form.{wall};
+ghost use Rattle.tables.specs.Table.{Fence, From, Roof, To, Spans};
 
 // The wall ROOF + g is a roof of slope g: no walk is above it. A lesser f is a fence of slope f: no walk is below it; 0 is no wall.
 pub(crate) const ROOF: usize = 16;

@@ -1,12 +1,12 @@
 // The count of families 6 and 7, in a table of the smallest of four sizes that has room: clearing the largest takes as long as filling a
 // small one.
 ghost use mathlib.Core.Path.{_≡_};
-ghost use Rattle.grid.specs.Plans.{Planned, PreparedFor, countFor};
-use crate::Answer;
-use crate::plan::Plan;
+ghost use Rattle.tables.specs.Plans.{Planned, PreparedFor, countFor};
 use crate::plan::cells_of;
 use crate::plan::offsets;
 use crate::table::fill;
+use tables::Answer;
+use tables::Plan;
 
 fn count_384(sa: &[usize; 8], sc: &[usize; 8], off: &[usize; 8], p: Plan) -> Answer
     requires { ⌜ PreparedFor p (now sa) (now sc) (now off) 384 ⌝ }

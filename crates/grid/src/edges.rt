@@ -5,17 +5,17 @@ ghost use Prim.Native.Nat.{_≤_, _<_};
 ghost use lib.ListN.{length, drop};
 ghost use Rattle.howmany.specs.Sum.{sum};
 ghost use Rattle.job.specs.Replies.{reply, numberSays};
-ghost use Rattle.grid.specs.Form.{via};
+ghost use Rattle.tables.specs.Form.{via};
 ghost use Rattle.letters.specs.Letters.{glyphOf};
-ghost use Rattle.grid.specs.Edges.{Reads, Sought};
-ghost use Rattle.grid.specs.Plans.{walksFor, numberFor, edgeFor};
-ghost use Rattle.grid.specs.Filling.{Full};
+ghost use Rattle.tables.specs.Edges.{Reads, Sought};
+ghost use Rattle.tables.specs.Plans.{walksFor, numberFor, edgeFor};
+ghost use Rattle.tables.specs.Filling.{Full};
 use crate::column::source;
 use crate::cone::stays;
-use crate::plan::Plan;
 use job::Numbered;
 use job::Step;
 use letters::place_of;
+use tables::Plan;
 
 // The byte of step i.
 fn glyph_of(i: usize) -> u8

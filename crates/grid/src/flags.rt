@@ -3,11 +3,11 @@ ghost use mathlib.Core.Path.{_≡_};
 ghost use Prim.Native.Nat.{_<_};
 ghost use lib.ListN.{length};
 ghost use Rattle.howmany.specs.Sum.{sum};
-ghost use Rattle.grid.specs.Form.{via};
-ghost use Rattle.grid.specs.Cells.{capOf, cellAt, Put};
-ghost use Rattle.grid.specs.Filling.{Parts};
-use crate::Answer;
+ghost use Rattle.tables.specs.Form.{via};
+ghost use Rattle.tables.specs.Cells.{capOf, cellAt, Put};
+ghost use Rattle.tables.specs.Filling.{Parts};
 use crate::column::source;
+use tables::Answer;
 
 pub(crate) fn cell(val: &[u64], ov: &[u8], i: usize) -> Answer
     requires { ⌜ (i < length (now val)) × (i < length (now ov)) ⌝ }

@@ -2,7 +2,7 @@
 ghost use mathlib.Core.Bool.{true, false};
 ghost use Prim.Native.Nat.{_+_, _*_, _≤_};
 ghost use lib.Dec.{T};
-ghost use Rattle.grid.specs.Heights.{Lifted, Beside, Height, Bounds, Heights, Turned};
+ghost use Rattle.tables.specs.Heights.{Lifted, Beside, Height, Bounds, Heights, Turned};
 use crate::cone::ROOF;
 
 fn lesser(a: usize, b: usize) -> usize

@@ -1,24 +1,21 @@
-// Families 1, 3, 6 and 7: count, number and build over the one grid that the four become by a shear.
+// Families 6 and 7: count, number and build over the table, filled column by column.
 ghost use mathlib.Core.Path.{_≡_};
 ghost use lib.ListN.{length};
 ghost use Rattle.rules.specs.Answers.{countAnswer, numberAnswer};
 ghost use Rattle.rules.specs.Questions.{edgesAnswer};
 ghost use Rattle.job.specs.Replies.{reply, countSays, numberSays};
 ghost use Rattle.lines.specs.Lines.{lines, LinedAs, Room};
-ghost use Rattle.grid.specs.Calls.{forGrid, toldOf, BuildsAs, Countable, CountsAs, NumbersAs};
+ghost use Rattle.tables.specs.Calls.{toldOf, BuildsAs, Countable, CountsAs, NumbersAs};
+ghost use Rattle.grid.specs.Calls.{forGrid};
 
 mod column;
 mod cone;
-mod corner;
-mod corner_numbering;
-mod corner_spelling;
 mod counting;
 mod edges;
 mod flags;
 mod heights;
 mod numbering;
 mod plan;
-mod rows;
 mod shape;
 mod spelling;
 mod table;
@@ -28,19 +25,17 @@ use job::Counted;
 use job::Job;
 use job::Numbered;
 use plan::plan_of;
-use shape::Shape;
+use tables::Answer;
+use tables::Shape;
 
-// A count, or that it needs more than 64 bits.
-pub enum Answer {
-    Count(u64),
-    Over,
-}
-
-// The count of a job of family 1, 3, 6 or 7 (document 01, "Counts").
+// The count of a job of family 6 or 7 (document 01, "Counts").
 pub fn count(block: &[u8]) -> Counted
     ensures { λ r. ⌜ countSays r ≡ reply (forGrid (now (block .entry)) (countAnswer (now (block .entry)))) ⌝ }
 {
     if job::is_square(block) {
+        return Counted::Refused(11);
+    }
+    if job::is_corner(block) {
         return Counted::Refused(11);
     }
     let made = Job::of(block);
@@ -48,11 +43,7 @@ pub fn count(block: &[u8]) -> Counted
     if refusal != 0 {
         return Counted::Refused(refusal);
     }
-    let job = made.job;
-    if job.family < 6 {
-        return corners::count(job.n, job.m - Job::LEVEL, job.family == 3);
-    }
-    let s = shape::shape_of(job);
+    let s = shape::shape_of(made.job);
     count_shape(s)
 }
 
@@ -79,11 +70,14 @@ fn count_shape(s: Shape) -> Counted
     told(counting::count(&sa, &sc, p))
 }
 
-// The number of an edge of a job of family 1, 3, 6 or 7 (000, algorithms 1 and 5; 001, algorithm 7).
+// The number of an edge of a job of family 6 or 7 (001, algorithm 7).
 pub fn number(block: &[u8], edge: &[u8]) -> Numbered
     ensures { λ r. ⌜ numberSays r ≡ reply (forGrid (now (block .entry)) (numberAnswer (now (block .entry)) (now (edge .entry)))) ⌝ }
 {
     if job::is_square(block) {
+        return Numbered::Refused(11);
+    }
+    if job::is_corner(block) {
         return Numbered::Refused(11);
     }
     let made = Job::of(block);
@@ -91,12 +85,7 @@ pub fn number(block: &[u8], edge: &[u8]) -> Numbered
     if refusal != 0 {
         return Numbered::Refused(refusal);
     }
-    let job = made.job;
-    if job.family < 6 {
-        let c = corner::corner_of(job);
-        return corner_numbering::number(c, edge);
-    }
-    let s = shape::shape_of(job);
+    let s = shape::shape_of(made.job);
     number_shape(s, edge)
 }
 
@@ -114,7 +103,7 @@ fn number_shape(s: Shape, edge: &[u8]) -> Numbered
     numbering::number(&sa, &sc, p, edge)
 }
 
-// The edges of a list of numbers, one after the other, and where each ends (000, algorithms 2 and 6; 001, algorithm 8).
+// The edges of a list of numbers, one after the other, and where each ends (001, algorithm 8).
 pub fn build_all(block: &[u8], numbers: &[u64], steps: &mut [u8], ends: &mut [usize]) -> Built
     ensures { λ r. ⌜ LinedAs (lines (forGrid (now (block .entry)) (edgesAnswer (now (block .entry)) (now (numbers .entry)))) (now (numbers .entry)) (now (steps .entry)) (now (ends .entry))) r (now (steps .exit)) (now (ends .exit)) ⌝ }
 {
@@ -124,17 +113,15 @@ pub fn build_all(block: &[u8], numbers: &[u64], steps: &mut [u8], ends: &mut [us
     if job::is_square(block) {
         return Built::Refused(11);
     }
+    if job::is_corner(block) {
+        return Built::Refused(11);
+    }
     let made = Job::of(block);
     let refusal = made.refusal;
     if refusal != 0 {
         return Built::Refused(refusal);
     }
-    let job = made.job;
-    if job.family < 6 {
-        let c = corner::corner_of(job);
-        return corner_spelling::spell_edges(c, numbers, steps, ends);
-    }
-    let s = shape::shape_of(job);
+    let s = shape::shape_of(made.job);
     build_shape(s, numbers, steps, ends)
 }
 

@@ -2,15 +2,15 @@
 ghost use mathlib.Core.Path.{_≡_};
 ghost use mathlib.Core.Bool.{false};
 ghost use Rattle.job.specs.Replies.{reply, numberSays};
-ghost use Rattle.grid.specs.Plans.{Planned, PreparedFor, numberFor};
-ghost use Rattle.grid.specs.Filling.{Begun};
-use crate::Answer;
+ghost use Rattle.tables.specs.Plans.{Planned, PreparedFor, numberFor};
+ghost use Rattle.tables.specs.Filling.{Begun};
 use crate::edges::read;
-use crate::plan::Plan;
 use crate::plan::cells_of;
 use crate::plan::offsets;
 use crate::table::fill;
 use job::Numbered;
+use tables::Answer;
+use tables::Plan;
 
 // The number of the edge over a table that is still blank.
 fn number_in(

@@ -1,22 +1,11 @@
 // What is found out of a shape before its table is filled.
 ghost use mathlib.Core.Path.{_≡_};
 ghost use Prim.Native.Nat.{_*_, _≤_};
-ghost use Rattle.grid.specs.Shapes.{FormOf};
-ghost use Rattle.grid.specs.Table.{Few, Offsets};
-ghost use Rattle.grid.specs.Plans.{Planned, PlanOf, SizesFor, strideFor, cellsFor};
-use crate::shape::Shape;
-
-// The numbers of a shape, six times its steepest step (hi), its deepest (m), and whether it has only the first four (few).
-pub(crate) struct Plan {
-    pub few: bool,
-    pub k: usize,
-    pub f: usize,
-    pub top: usize,
-    pub hi: usize,
-    pub m: usize,
-    pub ex: usize,
-    pub ey: usize,
-}
+ghost use Rattle.tables.specs.Shapes.{FormOf};
+ghost use Rattle.tables.specs.Table.{Few, Offsets};
+ghost use Rattle.tables.specs.Plans.{Planned, PlanOf, SizesFor, strideFor, cellsFor};
+use tables::Plan;
+use tables::Shape;
 
 fn greater(a: usize, b: usize) -> usize
     requires { ⌜ (a ≤ 72) × (b ≤ 72) ⌝ }

@@ -2,25 +2,14 @@
 // table is small.
 ghost use mathlib.Core.Path.{_≡_};
 ghost use Prim.Native.Nat.{_≤_, _<_, _+_, _*_};
-ghost use Rattle.grid.specs.Shapes.{Laid, Sound, Ranged, ShapedFor, Gentle, Lowered, View, Chosen};
+ghost use Rattle.tables.specs.Shapes.{Laid, Sound, Ranged, ShapedFor, Gentle, Lowered, View, Chosen};
 use crate::heights::height;
 use crate::heights::heights;
 use crate::heights::highest;
 use crate::heights::lowest;
 use crate::heights::wall;
 use job::Job;
-
-// What the table is filled for; f is its wall. State 0: steps and an end; 1: nothing leads to the end.
-pub(crate) struct Shape {
-    pub state: u8,
-    pub k: usize,
-    pub f: usize,
-    pub top: usize,
-    pub ex: usize,
-    pub ey: usize,
-    pub sa: [usize; 8],
-    pub sc: [usize; 8],
-}
+use tables::Shape;
 
 fn wide(x: u8) -> usize
     ensures { λ r. ⌜ r ≡ x ⌝ }

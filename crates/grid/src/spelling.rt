@@ -5,16 +5,16 @@ ghost use mathlib.Core.Bool.{true, false};
 ghost use Prim.Native.Nat.{_≤_, _<_};
 ghost use lib.ListN.{length};
 ghost use Rattle.rules.specs.Questions.{allBelow};
-ghost use Rattle.grid.specs.Spelling.{Front};
-ghost use Rattle.grid.specs.Filling.{Begun, Full};
-ghost use Rattle.grid.specs.Plans.{Planned, PreparedFor, walksFor, RoomFor, edgeFor, ListsFor, BuildsFor};
-use crate::Answer;
+ghost use Rattle.tables.specs.Spelling.{Front};
+ghost use Rattle.tables.specs.Filling.{Begun, Full};
+ghost use Rattle.tables.specs.Plans.{Planned, PreparedFor, walksFor, RoomFor, edgeFor, ListsFor, BuildsFor};
 use crate::edges::spell;
-use crate::plan::Plan;
 use crate::plan::cells_of;
 use crate::plan::offsets;
 use crate::table::fill;
 use job::Built;
+use tables::Answer;
+use tables::Plan;
 
 // The edge of number r, to the front of steps; the answer is its length.
 fn spell_front(

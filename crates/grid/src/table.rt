@@ -1,8 +1,7 @@
 // The table of families 6 and 7 filled column by column: first without tests, and with flags from the first column that could need them.
 ghost use Prim.Native.Nat.{_+_};
-ghost use Rattle.grid.specs.Plans.{FlaggedFor, SpansFor};
-ghost use Rattle.grid.specs.Filling.{Begun, Before, After, Got, Resumed, Turn, Slow, Filled};
-use crate::Answer;
+ghost use Rattle.tables.specs.Plans.{FlaggedFor, SpansFor};
+ghost use Rattle.tables.specs.Filling.{Begun, Before, After, Got, Resumed, Turn, Slow, Filled};
 use crate::column::column4;
 use crate::column::column8;
 use crate::column::is_small;
@@ -10,7 +9,8 @@ use crate::cone::spans;
 use crate::flags::cell;
 use crate::flags::put;
 use crate::flags::total;
-use crate::plan::Plan;
+use tables::Answer;
+use tables::Plan;
 
 // Column x. Whether the next one can be summed without a test.
 fn step(

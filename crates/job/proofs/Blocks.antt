@@ -250,6 +250,6 @@ pub sized-is : (b : List ℕ) → sized b ≡ pick (leb (familyOf b) 5) (sizedCo
 unfolding sized
 sized-is b = refl
 
-pub no-family : (b : List ℕ) → length b ≡ 0 → square (familyOf b) ≡ false
-no-family [] e = refl
-no-family (x ∷ b) e = absurd (omega arith)
+pub no-family : (b : List ℕ) → length b < 1 → familyOf b ≡ 0
+no-family [] l = refl
+no-family (x ∷ b) l = absurd (omega arith)

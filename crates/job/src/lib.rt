@@ -2,7 +2,7 @@
 ghost use mathlib.Core.Path.{_≡_};
 ghost use Prim.Native.Nat.{ℕ, _+_, _*_, _%_, _≤_, _<_};
 ghost use lib.ListN.{length, drop, getD};
-ghost use Rattle.rules.specs.Blocks.{familyOf, square, zeros, formed, sized, sizedCorner, sizedDirected, small, used, isIn, twins};
+ghost use Rattle.rules.specs.Blocks.{familyOf, square, corner, zeros, formed, sized, sizedCorner, sizedDirected, small, used, isIn, twins};
 ghost use mathlib.Core.List.{_++_};
 ghost use Rattle.rules.specs.Answers.{written};
 ghost use Rattle.rules.specs.Refusals.Answer.{accepted};
@@ -120,6 +120,20 @@ pub fn is_square(block: &[u8]) -> bool
         return false;
     }
     is_square_family(block[0])
+}
+
+// Whether the block is of family 1 or 3.
+pub fn is_corner(block: &[u8]) -> bool
+    ensures { λ r. ⌜ r ≡ corner (familyOf (now (block .entry))) ⌝ }
+{
+    if block.len() < 1 {
+        return false;
+    }
+    let family = block[0];
+    if family == 1 {
+        return true;
+    }
+    family == 3
 }
 
 // Whether every byte is zero.

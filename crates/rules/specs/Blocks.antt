@@ -69,6 +69,10 @@ between lo hi z = leℤ lo z && leℤ z hi
 abbrev pub square : ℕ → Bool
 square family = eqb family 2 || (eqb family 4 || eqb family 5)
 
+-- families 1 and 3, whose steps are the same but free
+abbrev pub corner : ℕ → Bool
+corner family = eqb family 1 || eqb family 3
+
 -- "each used a 1 to 3, each used b -3 to 3"
 unfoldable pub small : List Pair → Bool
 small [] = true

@@ -1,11 +1,11 @@
--- `grid::build_all` meets its contract: by room, by family, by the job maker's answer, and by the job's corner or shape. Assumes nothing.
+-- `grid::build_all` meets its contract: by room, by family, by the job maker's answer, and by the job's shape. Assumes nothing.
 use mathlib.Core.Path.{sym, _∙_}
 use borrow.Author.Tests.{not-true, not-false}
 use Rattle.job.proofs.Standing.{kept-of, told-of}
 use Rattle.lines.proofs.Lining.{room-of, lines-short, lines-room}
-use Rattle.grid.proofs.Counted.{sound-of, countable-of}
-use Rattle.grid.proofs.Builds.{build-square, build-told, build-reply, build-shaped}
-use Rattle.grid.proofs.Corners.{corner-level, corner-answer}
+use Rattle.tables.proofs.Counted.{sound-of, countable-of}
+use Rattle.tables.proofs.Builds.{build-other, build-told, build-shaped}
+use Rattle.grid.proofs.Families.{is-square, is-corner, neither, directed-of}
 use borrow.Author.Needs.{needs}
 use Rattle.grid.proofs.build_all.Statement.{statement}
 use Rattle.grid.proofs.build_all.Tie as tie
@@ -22,22 +22,29 @@ is-square-requires c κs = search needs
 
 returns-2 : tie.Need-returns-2
 returns-2 c =
-    lines-room _ (c .before .before .before .before .before .before .before .before .args .numbers .now) _ _ _ _ _ (sym (c .before .before .before .has-room .ensures) ∙ not-false _ (c .before .before .if1 .left)) (build-square (c .before .before .before .before .before .before .before .before .args .block .now) (c .before .before .before .before .before .before .before .before .args .numbers .now) _ _ (sym (c .before .is-square .ensures) ∙ c .if2 .taken))
+    lines-room _ (c .before .before .before .before .before .before .before .before .args .numbers .now) _ _ _ _ _ (sym (c .before .before .before .has-room .ensures) ∙ not-false _ (c .before .before .if1 .left)) (build-other (c .before .before .before .before .before .before .before .before .args .block .now) (c .before .before .before .before .before .before .before .before .args .numbers .now) _ _ (is-square _ (sym (c .before .is-square .ensures) ∙ c .if2 .taken)))
+
+is-corner-requires : tie.Need-is-corner-requires
+is-corner-requires c κs = search needs
+
+returns-3 : tie.Need-returns-3
+returns-3 c =
+    lines-room _ (c .before .before .before .before .before .before .before .before .before .before .args .numbers .now) _ _ _ _ _ (sym (c .before .before .before .before .before .has-room .ensures) ∙ not-false _ (c .before .before .before .before .if1 .left)) (build-other (c .before .before .before .before .before .before .before .before .before .before .args .block .now) (c .before .before .before .before .before .before .before .before .before .before .args .numbers .now) _ _ (is-corner (sym (c .before .before .before .is-square .ensures) ∙ c .before .before .if2 .left) (sym (c .before .is-corner .ensures) ∙ c .if3 .taken)))
 
 of-requires : tie.Need-of-requires
 of-requires c κs = search needs
 
-returns-3 : tie.Need-returns-3
-returns-3 c =
-    lines-room _ (c .before .before .before .before .before .before .before .before .before .before .args .numbers .now) _ _ _ _ _ (sym (c .before .before .before .before .before .has-room .ensures) ∙ not-false _ (c .before .before .before .before .if1 .left)) (build-told (c .before .before .before .before .before .before .before .before .before .before .args .block .now) (c .before .before .before .before .before .before .before .before .before .before .args .numbers .now) _ _ _ (sym (c .before .before .before .is-square .ensures) ∙ c .before .before .if2 .left) (told-of (c .before .before .before .before .before .before .before .before .before .before .args .block .now) (c .before .of .result) (c .before .of .ensures) (c .if3 .taken)))
+returns-4 : tie.Need-returns-4
+returns-4 c =
+    lines-room _ (c .before .before .before .before .before .before .before .before .before .before .before .before .args .numbers .now) _ _ _ _ _ (sym (c .before .before .before .before .before .before .before .has-room .ensures) ∙ not-false _ (c .before .before .before .before .before .before .if1 .left)) (build-told (c .before .before .before .before .before .before .before .before .before .before .before .before .args .block .now) (c .before .before .before .before .before .before .before .before .before .before .before .before .args .numbers .now) _ _ _ (neither (sym (c .before .before .before .before .before .is-square .ensures) ∙ c .before .before .before .before .if2 .left) (sym (c .before .before .before .is-corner .ensures) ∙ c .before .before .if3 .left)) (told-of (c .before .before .before .before .before .before .before .before .before .before .before .before .args .block .now) (c .before .of .result) (c .before .of .ensures) (c .if4 .taken)))
 
-corner-of-requires : tie.Need-corner-of-requires
-corner-of-requires c κs =
-    corner-level _ (sound-of (c .before .before .before .before .before .before .before .before .before .before .before .before .before .args .block .now) (c .before .before .before .before .of .result .job) (kept-of (c .before .before .before .before .before .before .before .before .before .before .before .before .before .args .block .now) (c .before .before .before .before .of .result) (λ i. c .before .before .before .before .before .before .before .before .before .before .before .before .shared-slice-known .given i .fits) (c .before .before .before .before .of .ensures) (c .before .before .before .if3 .left)) (sym (c .before .before .before .before .before .before .is-square .ensures) ∙ c .before .before .before .before .before .if2 .left)) (c .if4 .taken) .m-least
+shape-of-requires : tie.Need-shape-of-requires
+shape-of-requires c κs =
+    (sound-of (c .before .before .before .before .before .before .before .before .before .before .before .before .args .block .now) (c .before .of .result .job) (kept-of (c .before .before .before .before .before .before .before .before .before .before .before .before .args .block .now) (c .before .of .result) (λ i. c .before .before .before .before .before .before .before .before .before .before .before .shared-slice-known .given i .fits) (c .before .of .ensures) (c .if4 .left)) (sym (c .before .before .before .before .before .is-square .ensures) ∙ c .before .before .before .before .if2 .left), directed-of (c .before .before .before .before .before .before .before .before .before .before .before .before .args .block .now) (c .before .of .result .job) (kept-of (c .before .before .before .before .before .before .before .before .before .before .before .before .args .block .now) (c .before .of .result) (λ i. c .before .before .before .before .before .before .before .before .before .before .before .shared-slice-known .given i .fits) (c .before .of .ensures) (c .if4 .left)) (sym (c .before .before .before .before .before .is-square .ensures) ∙ c .before .before .before .before .if2 .left) (sym (c .before .before .before .is-corner .ensures) ∙ c .before .before .if3 .left))
 
-spell-edges-requires : tie.Need-spell-edges-requires
-spell-edges-requires c κs =
-    (rw (c .before .before .corner-of .ensures) (corner-level _ (sound-of (c .before .before .before .before .before .before .before .before .before .before .before .before .before .before .before .before .args .block .now) (c .before .before .before .before .before .before .before .of .result .job) (kept-of (c .before .before .before .before .before .before .before .before .before .before .before .before .before .before .before .before .args .block .now) (c .before .before .before .before .before .before .before .of .result) (λ i. c .before .before .before .before .before .before .before .before .before .before .before .before .before .before .before .shared-slice-known .given i .fits) (c .before .before .before .before .before .before .before .of .ensures) (c .before .before .before .before .before .before .if3 .left)) (sym (c .before .before .before .before .before .before .before .before .before .is-square .ensures) ∙ c .before .before .before .before .before .before .before .before .if2 .left)) (c .before .before .before .if4 .taken) .within), room-of _ _ _ (sym (c .before .before .before .before .before .before .before .before .before .before .before .has-room .ensures) ∙ not-false _ (c .before .before .before .before .before .before .before .before .before .before .if1 .left)))
+build-shape-requires : tie.Need-build-shape-requires
+build-shape-requires c κs =
+    (countable-of (c .before .before .before .before .before .before .before .before .before .before .before .before .before .before .before .args .block .now) (c .before .before .before .before .of .result .job) (kept-of (c .before .before .before .before .before .before .before .before .before .before .before .before .before .before .before .args .block .now) (c .before .before .before .before .of .result) (λ i. c .before .before .before .before .before .before .before .before .before .before .before .before .before .before .shared-slice-known .given i .fits) (c .before .before .before .before .of .ensures) (c .before .before .before .if4 .left)) (sym (c .before .before .before .before .before .before .before .before .is-square .ensures) ∙ c .before .before .before .before .before .before .before .if2 .left) (c .before .before .shape-of .ensures), room-of _ _ _ (sym (c .before .before .before .before .before .before .before .before .before .before .has-room .ensures) ∙ not-false _ (c .before .before .before .before .before .before .before .before .before .if1 .left)))
 
 same-length : tie.Need-same-length
 same-length c = search needs
@@ -45,27 +52,9 @@ same-length c = search needs
 same-length-2 : tie.Need-same-length-2
 same-length-2 c = search needs
 
-returns-4 : tie.Need-returns-4
-returns-4 c =
-    lines-room _ (c .before .before .before .before .before .before .before .before .before .before .before .before .before .before .before .before .before .before .before .before .before .args .numbers .now) _ _ _ _ _ (sym (c .before .before .before .before .before .before .before .before .before .before .before .before .before .before .before .before .has-room .ensures) ∙ not-false _ (c .before .before .before .before .before .before .before .before .before .before .before .before .before .before .before .if1 .left)) (build-reply (c .before .before .before .before .before .before .before .before .before .before .before .before .before .before .before .before .before .before .before .before .before .args .block .now) (c .before .before .before .before .before .before .before .before .before .before .before .before .before .before .before .before .before .before .before .before .before .args .numbers .now) _ _ _ _ _ _ (sym (c .before .before .before .before .before .before .before .before .before .before .before .before .before .before .is-square .ensures) ∙ c .before .before .before .before .before .before .before .before .before .before .before .before .before .if2 .left) (corner-answer (c .before .before .before .before .before .before .before .before .before .before .before .before .before .before .before .before .before .before .before .before .before .args .block .now) (c .before .before .before .before .before .before .before .before .before .before .before .before .of .result .job) (kept-of (c .before .before .before .before .before .before .before .before .before .before .before .before .before .before .before .before .before .before .before .before .before .args .block .now) (c .before .before .before .before .before .before .before .before .before .before .before .before .of .result) (λ i. c .before .before .before .before .before .before .before .before .before .before .before .before .before .before .before .before .before .before .before .before .shared-slice-known .given i .fits) (c .before .before .before .before .before .before .before .before .before .before .before .before .of .ensures) (c .before .before .before .before .before .before .before .before .before .before .before .if3 .left)) (sym (c .before .before .before .before .before .before .before .before .before .before .before .before .before .before .is-square .ensures) ∙ c .before .before .before .before .before .before .before .before .before .before .before .before .before .if2 .left) (c .before .before .before .before .before .before .before .before .if4 .taken) _ (c .before .before .before .before .before .before .before .corner-of .ensures)) (c .before .before .before .before .spell-edges .ensures))
-
-shape-of-requires : tie.Need-shape-of-requires
-shape-of-requires c κs =
-    (sound-of (c .before .before .before .before .before .before .before .before .before .before .before .before .before .args .block .now) (c .before .before .before .before .of .result .job) (kept-of (c .before .before .before .before .before .before .before .before .before .before .before .before .before .args .block .now) (c .before .before .before .before .of .result) (λ i. c .before .before .before .before .before .before .before .before .before .before .before .before .shared-slice-known .given i .fits) (c .before .before .before .before .of .ensures) (c .before .before .before .if3 .left)) (sym (c .before .before .before .before .before .before .is-square .ensures) ∙ c .before .before .before .before .before .if2 .left), c .if4 .left)
-
-build-shape-requires : tie.Need-build-shape-requires
-build-shape-requires c κs =
-    (countable-of (c .before .before .before .before .before .before .before .before .before .before .before .before .before .before .before .before .args .block .now) (c .before .before .before .before .before .before .before .of .result .job) (kept-of (c .before .before .before .before .before .before .before .before .before .before .before .before .before .before .before .before .args .block .now) (c .before .before .before .before .before .before .before .of .result) (λ i. c .before .before .before .before .before .before .before .before .before .before .before .before .before .before .before .shared-slice-known .given i .fits) (c .before .before .before .before .before .before .before .of .ensures) (c .before .before .before .before .before .before .if3 .left)) (sym (c .before .before .before .before .before .before .before .before .before .is-square .ensures) ∙ c .before .before .before .before .before .before .before .before .if2 .left) (c .before .before .shape-of .ensures), room-of _ _ _ (sym (c .before .before .before .before .before .before .before .before .before .before .before .has-room .ensures) ∙ not-false _ (c .before .before .before .before .before .before .before .before .before .before .if1 .left)))
-
-same-length-3 : tie.Need-same-length-3
-same-length-3 c = search needs
-
-same-length-4 : tie.Need-same-length-4
-same-length-4 c = search needs
-
 returns-5 : tie.Need-returns-5
 returns-5 c =
-    lines-room _ (c .before .before .before .before .before .before .before .before .before .before .before .before .before .before .before .before .before .before .before .before .before .args .numbers .now) _ _ _ _ _ (sym (c .before .before .before .before .before .before .before .before .before .before .before .before .before .before .before .before .has-room .ensures) ∙ not-false _ (c .before .before .before .before .before .before .before .before .before .before .before .before .before .before .before .if1 .left)) (build-shaped (c .before .before .before .before .before .before .before .before .before .before .before .before .before .before .before .before .before .before .before .before .before .args .block .now) (c .before .before .before .before .before .before .before .before .before .before .before .before .before .before .before .before .before .before .before .before .before .args .numbers .now) _ _ (c .before .before .before .before .before .before .before .before .before .before .before .before .of .result .job) (kept-of (c .before .before .before .before .before .before .before .before .before .before .before .before .before .before .before .before .before .before .before .before .before .args .block .now) (c .before .before .before .before .before .before .before .before .before .before .before .before .of .result) (λ i. c .before .before .before .before .before .before .before .before .before .before .before .before .before .before .before .before .before .before .before .before .shared-slice-known .given i .fits) (c .before .before .before .before .before .before .before .before .before .before .before .before .of .ensures) (c .before .before .before .before .before .before .before .before .before .before .before .if3 .left)) (sym (c .before .before .before .before .before .before .before .before .before .before .before .before .before .before .is-square .ensures) ∙ c .before .before .before .before .before .before .before .before .before .before .before .before .before .if2 .left) (c .before .before .before .before .before .before .before .shape-of .ensures) _ _ _ (c .before .before .before .before .build-shape .ensures))
+    lines-room _ (c .before .before .before .before .before .before .before .before .before .before .before .before .before .before .before .before .before .before .before .before .args .numbers .now) _ _ _ _ _ (sym (c .before .before .before .before .before .before .before .before .before .before .before .before .before .before .before .has-room .ensures) ∙ not-false _ (c .before .before .before .before .before .before .before .before .before .before .before .before .before .before .if1 .left)) (build-shaped (c .before .before .before .before .before .before .before .before .before .before .before .before .before .before .before .before .before .before .before .before .args .block .now) (c .before .before .before .before .before .before .before .before .before .before .before .before .before .before .before .before .before .before .before .before .args .numbers .now) _ _ (c .before .before .before .before .before .before .before .before .before .of .result .job) (kept-of (c .before .before .before .before .before .before .before .before .before .before .before .before .before .before .before .before .before .before .before .before .args .block .now) (c .before .before .before .before .before .before .before .before .before .of .result) (λ i. c .before .before .before .before .before .before .before .before .before .before .before .before .before .before .before .before .before .before .before .shared-slice-known .given i .fits) (c .before .before .before .before .before .before .before .before .before .of .ensures) (c .before .before .before .before .before .before .before .before .if4 .left)) (sym (c .before .before .before .before .before .before .before .before .before .before .before .before .before .is-square .ensures) ∙ c .before .before .before .before .before .before .before .before .before .before .before .before .if2 .left) (neither (sym (c .before .before .before .before .before .before .before .before .before .before .before .before .before .is-square .ensures) ∙ c .before .before .before .before .before .before .before .before .before .before .before .before .if2 .left) (sym (c .before .before .before .before .before .before .before .before .before .before .before .is-corner .ensures) ∙ c .before .before .before .before .before .before .before .before .before .before .if3 .left)) (c .before .before .before .before .before .before .before .shape-of .ensures) _ _ _ (c .before .before .before .before .build-shape .ensures))
 
 pub build-all-spec : {M : Type 1} → statement M
 build-all-spec =
@@ -75,15 +64,12 @@ build-all-spec =
     returns
     is-square-requires
     returns-2
-    of-requires
+    is-corner-requires
     returns-3
-    corner-of-requires
-    spell-edges-requires
-    same-length
-    same-length-2
+    of-requires
     returns-4
     shape-of-requires
     build-shape-requires
-    same-length-3
-    same-length-4
+    same-length
+    same-length-2
     returns-5)

@@ -1,6 +1,6 @@
 -- `grid::build_shape` meets its contract: by the shape's state, and then by the table's answer. Assumes nothing.
-use Rattle.grid.proofs.Counted.{state-none, state-working}
-use Rattle.grid.proofs.Builds.{build-none, build-empty, plan-builds}
+use Rattle.tables.proofs.Counted.{state-none, state-working}
+use Rattle.tables.proofs.Builds.{build-none, build-empty, plan-builds}
 use borrow.Author.Needs.{needs}
 use Rattle.grid.proofs.build_shape.Statement.{statement}
 use Rattle.grid.proofs.build_shape.Tie as tie

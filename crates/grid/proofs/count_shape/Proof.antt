@@ -1,6 +1,6 @@
 -- `grid::count_shape` meets its contract: by the shape's state, and then by the table's answer. Assumes nothing.
 use native.Mathlib.Omega.{arith}
-use Rattle.grid.proofs.Counted.{state-none, state-working, counts-value, counts-told, plan-count}
+use Rattle.tables.proofs.Counted.{state-none, state-working, counts-value, counts-told, plan-count}
 use borrow.Author.Needs.{needs}
 use Rattle.grid.proofs.count_shape.Statement.{statement}
 use Rattle.grid.proofs.count_shape.Tie as tie

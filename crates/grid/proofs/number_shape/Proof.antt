@@ -1,5 +1,5 @@
 -- `grid::number_shape` meets its contract: by the shape's state, and then by the table's answer. Assumes nothing.
-use Rattle.grid.proofs.Counted.{state-none, state-empty, state-working, number-none, plan-number}
+use Rattle.tables.proofs.Counted.{state-none, state-empty, state-working, number-none, plan-number}
 use Rattle.grid.proofs.number_shape.Statement.{statement}
 use Rattle.grid.proofs.number_shape.Tie as tie
 

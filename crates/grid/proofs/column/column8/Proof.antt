@@ -2,7 +2,7 @@ use Prim.Native.Nat.{_+_, _≤_, _<_, _-_, _*_, _^_}
 use mathlib.Core.Path.{_≡_, refl}
 use native.Mathlib.Omega.{arith}
 use lib.ListN.{length, length-set}
-use Rattle.grid.specs.Cells.{Run, Column}
+use Rattle.tables.specs.Cells.{Run, Column}
 use Rattle.grid.proofs.Sums.{Sources8, sum8, parts8, at-fits, at-byte, at-in, to-fits, to-byte, to-in, below-8, start-in, no-cell, more-le, more-fits, fewer-left, all-of, column-none, column-more, column-at}
 use Rattle.grid.proofs.column.column8.Statement.{statement}
 use Rattle.grid.proofs.column.column8.Tie as tie

@@ -1,7 +1,7 @@
 use borrow.Author.Needs.{needs}
 use native.Mathlib.Omega.{arith}
 use borrow.Author.Tests.{lt-ltb, le-ltb}
-use Rattle.grid.specs.Cells.{sourceOf}
+use Rattle.tables.specs.Cells.{sourceOf}
 use Rattle.grid.proofs.column.source.Statement.{statement}
 use Rattle.grid.proofs.column.source.Tie as tie
 

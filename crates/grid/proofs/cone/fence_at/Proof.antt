@@ -1,7 +1,7 @@
 -- `grid::cone::fence_at` meets its contract: by whether the wall is a fence. Assumes nothing.
 use native.Mathlib.Omega.{arith}
-use Rattle.grid.proofs.Laws.{mul-bound}
-use Rattle.grid.proofs.Walls.{fence-low, fence-free}
+use Rattle.tables.proofs.Laws.{mul-bound}
+use Rattle.tables.proofs.Walls.{fence-low, fence-free}
 use Rattle.grid.proofs.cone.fence_at.Statement.{statement}
 use Rattle.grid.proofs.cone.fence_at.Tie as tie
 

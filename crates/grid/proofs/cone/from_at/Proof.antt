@@ -1,8 +1,8 @@
 -- `grid::cone::from_at` meets its contract: the fence, or the lowest height from which the end can be reached. Assumes nothing.
 use Prim.Native.Nat.{_-_}
 use native.Mathlib.Omega.{arith}
-use Rattle.grid.proofs.Laws.{mul-bound}
-use Rattle.grid.proofs.Walls.{from-fence, from-end}
+use Rattle.tables.proofs.Laws.{mul-bound}
+use Rattle.tables.proofs.Walls.{from-fence, from-end}
 use borrow.Author.Needs.{needs}
 use Rattle.grid.proofs.cone.from_at.Statement.{statement}
 use Rattle.grid.proofs.cone.from_at.Tie as tie

@@ -1,8 +1,8 @@
 -- `grid::cone::roof_at` meets its contract: by whether the wall is a roof, and whether it is lower. Assumes nothing.
 use Prim.Native.Nat.{_-_}
 use native.Mathlib.Omega.{arith}
-use Rattle.grid.proofs.Laws.{mul-bound}
-use Rattle.grid.proofs.Walls.{roof-free, roof-low, roof-high}
+use Rattle.tables.proofs.Laws.{mul-bound}
+use Rattle.tables.proofs.Walls.{roof-free, roof-low, roof-high}
 use Rattle.grid.proofs.cone.roof_at.Statement.{statement}
 use Rattle.grid.proofs.cone.roof_at.Tie as tie
 

@@ -3,8 +3,8 @@ use Prim.Native.Nat.{_+_, _-_, _≤_, _<_}
 use native.Mathlib.Omega.{arith}
 use borrow.Author.Needs.{needs}
 use lib.ListN.{length, length-set}
-use Rattle.grid.specs.Table.{Spans}
-use Rattle.grid.proofs.Walls.{spans-none, spans-more, spans-all}
+use Rattle.tables.specs.Table.{Spans}
+use Rattle.tables.proofs.Walls.{spans-none, spans-more, spans-all}
 use Rattle.grid.proofs.cone.spans.Statement.{statement}
 use Rattle.grid.proofs.cone.spans.Tie as tie
 

@@ -1,6 +1,6 @@
 -- `grid::cone::stays` meets its contract: by the fence, and by the roof. Assumes nothing.
 use borrow.Author.Needs.{needs}
-use Rattle.grid.proofs.Walls.{stays-not, stays-by}
+use Rattle.tables.proofs.Walls.{stays-not, stays-by}
 use Rattle.grid.proofs.cone.stays.Statement.{statement}
 use Rattle.grid.proofs.cone.stays.Tie as tie
 

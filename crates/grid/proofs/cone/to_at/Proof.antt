@@ -1,7 +1,7 @@
 -- `grid::cone::to_at` meets its contract: past the highest height that a step leads to, or past the end. Assumes nothing.
 use native.Mathlib.Omega.{arith}
-use Rattle.grid.proofs.Laws.{mul-bound}
-use Rattle.grid.proofs.Walls.{to-reach, to-end}
+use Rattle.tables.proofs.Laws.{mul-bound}
+use Rattle.tables.proofs.Walls.{to-reach, to-end}
 use borrow.Author.Needs.{needs}
 use Rattle.grid.proofs.cone.to_at.Statement.{statement}
 use Rattle.grid.proofs.cone.to_at.Tie as tie

@@ -2,8 +2,8 @@ use mathlib.Core.Path.{_≡_, refl, ap, _∙_}
 use Prim.Native.Nat.{_-_, _≤_}
 use native.Mathlib.Omega.{arith}
 use Rattle.howmany.specs.Sum.{sum}
-use Rattle.grid.specs.Form.{via}
-use Rattle.grid.proofs.Numbers.{read-in, read-more}
+use Rattle.tables.specs.Form.{via}
+use Rattle.tables.proofs.Numbers.{read-in, read-more}
 use Rattle.grid.proofs.edges.part_sum.Statement.{statement}
 use Rattle.grid.proofs.edges.part_sum.Tie as tie
 

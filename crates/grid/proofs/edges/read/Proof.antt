@@ -4,8 +4,8 @@ use mathlib.Core.Path.{sym, _∙_}
 use mathlib.Core.Bool.{false}
 use borrow.Author.Tests.{not-true, not-false}
 use Rattle.howmany.proofs.Choices.{holds}
-use Rattle.grid.proofs.Phases.{place-sum, end-placed}
-use Rattle.grid.proofs.Numbers.{Walking, walking-start, last-in, stays-fits, step-in, step-byte, not-inside, not-letter, not-right, not-up, stepped, ends-fit, not-start, walking-end}
+use Rattle.tables.proofs.Phases.{place-sum, end-placed}
+use Rattle.tables.proofs.Numbers.{Walking, walking-start, last-in, stays-fits, step-in, step-byte, not-inside, not-letter, not-right, not-up, stepped, ends-fit, not-start, walking-end}
 use Rattle.grid.proofs.edges.read.Statement.{statement}
 use Rattle.grid.proofs.edges.read.Tie as tie
 

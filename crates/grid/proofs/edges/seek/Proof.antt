@@ -2,9 +2,9 @@ use mathlib.Core.Path.{_≡_}
 use Prim.Native.Nat.{_+_, _-_, _≤_}
 use native.Mathlib.Omega.{arith}
 use Rattle.howmany.specs.Sum.{sum}
-use Rattle.grid.specs.Form.{via}
-use Rattle.grid.proofs.Numbers.{read-in, read-is}
-use Rattle.grid.proofs.Building.{seek-here, seek-more, seek-end}
+use Rattle.tables.specs.Form.{via}
+use Rattle.tables.proofs.Numbers.{read-in, read-is}
+use Rattle.tables.proofs.Building.{seek-here, seek-more, seek-end}
 use Rattle.grid.proofs.edges.seek.Statement.{statement}
 use Rattle.grid.proofs.edges.seek.Tie as tie
 

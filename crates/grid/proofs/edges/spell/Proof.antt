@@ -1,8 +1,8 @@
 use mathlib.Core.Path.{_≡_, refl}
 use mathlib.Core.Bool.{false}
 use lib.ListN.{length, length-set}
-use Rattle.grid.proofs.Phases.{place-sum, end-placed}
-use Rattle.grid.proofs.Building.{Writing, writing-start, reads-of, left-of, written, writing-end}
+use Rattle.tables.proofs.Phases.{place-sum, end-placed}
+use Rattle.tables.proofs.Building.{Writing, writing-start, reads-of, left-of, written, writing-end}
 use Rattle.grid.proofs.edges.spell.Statement.{statement}
 use Rattle.grid.proofs.edges.spell.Tie as tie
 

@@ -1,4 +1,4 @@
-use Rattle.grid.proofs.Laws.{cell-zero, cell-over}
+use Rattle.tables.proofs.Laws.{cell-zero, cell-over}
 use mathlib.Core.Path.{sym}
 use borrow.Author.Needs.{needs}
 use Rattle.grid.proofs.flags.cell.Statement.{statement}

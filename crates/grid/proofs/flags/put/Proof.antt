@@ -1,6 +1,6 @@
 use mathlib.Core.Path.{_∙_, sym, refl}
 use native.Mathlib.Omega.{arith}
-use Rattle.grid.proofs.Laws.{cell-zero, cell-over, put-is}
+use Rattle.tables.proofs.Laws.{cell-zero, cell-over, put-is}
 use borrow.Author.Needs.{needs}
 use Rattle.grid.proofs.flags.put.Statement.{statement}
 use Rattle.grid.proofs.flags.put.Tie as tie

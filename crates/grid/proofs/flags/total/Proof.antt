@@ -3,9 +3,9 @@ use Prim.Native.Nat.{_≤_, _-_, _^_, _<_}
 use native.Mathlib.Omega.{arith}
 use borrow.Author.Needs.{needs}
 use Rattle.howmany.specs.Sum.{sum}
-use Rattle.grid.specs.Form.{via}
-use Rattle.grid.proofs.Laws.{total-done, total-over, total-more, total-wraps}
-use Rattle.grid.proofs.Phases.{said}
+use Rattle.tables.specs.Form.{via}
+use Rattle.tables.proofs.Laws.{total-done, total-over, total-more, total-wraps}
+use Rattle.tables.proofs.Phases.{said}
 use Rattle.grid.proofs.flags.total.Statement.{statement}
 use Rattle.grid.proofs.flags.total.Tie as tie
 

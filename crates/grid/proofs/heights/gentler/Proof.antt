@@ -1,7 +1,7 @@
 -- `grid::heights::gentler` meets its contract: by the columns of the step. Assumes nothing.
 use native.Mathlib.Omega.{arith}
 use borrow.Author.Needs.{needs}
-use Rattle.grid.proofs.Lowering.{slope-low}
+use Rattle.tables.proofs.Lowering.{slope-low}
 use Rattle.grid.proofs.heights.gentler.Statement.{statement}
 use Rattle.grid.proofs.heights.gentler.Tie as tie
 

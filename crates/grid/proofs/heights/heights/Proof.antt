@@ -2,8 +2,8 @@
 use Prim.Native.Nat.{_≤_, _-_}
 use native.Mathlib.Nat.{mul-le-mul}
 use native.Mathlib.Omega.{arith}
-use Rattle.grid.specs.Heights.{Heights}
-use Rattle.grid.proofs.Lowering.{heights-none, heights-more, heights-at}
+use Rattle.tables.specs.Heights.{Heights}
+use Rattle.tables.proofs.Lowering.{heights-none, heights-more, heights-at}
 use Rattle.grid.proofs.heights.heights.Statement.{statement}
 use Rattle.grid.proofs.heights.heights.Tie as tie
 

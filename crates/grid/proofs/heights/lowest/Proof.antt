@@ -2,8 +2,8 @@
 use mathlib.Core.Bool.{false}
 use Prim.Native.Nat.{_≤_, _-_}
 use native.Mathlib.Omega.{arith}
-use Rattle.grid.specs.Heights.{Bounds}
-use Rattle.grid.proofs.Lowering.{bounds-none, bounds-low, bounds-at}
+use Rattle.tables.specs.Heights.{Bounds}
+use Rattle.tables.proofs.Lowering.{bounds-none, bounds-low, bounds-at}
 use Rattle.grid.proofs.heights.lowest.Statement.{statement}
 use Rattle.grid.proofs.heights.lowest.Tie as tie
 

@@ -1,7 +1,7 @@
 -- `grid::heights::steeper` meets its contract: by the columns of the step. Assumes nothing.
 use native.Mathlib.Omega.{arith}
 use borrow.Author.Needs.{needs}
-use Rattle.grid.proofs.Lowering.{slope-high}
+use Rattle.tables.proofs.Lowering.{slope-high}
 use Rattle.grid.proofs.heights.steeper.Statement.{statement}
 use Rattle.grid.proofs.heights.steeper.Tie as tie
 

@@ -3,7 +3,7 @@ use mathlib.Core.Path.{refl}
 use native.Mathlib.Omega.{arith}
 use Rattle.howmany.proofs.Choices.{holds}
 use borrow.Author.Needs.{needs}
-use Rattle.grid.proofs.Walls.{wall-free, wall-slid, wall-mirrored}
+use Rattle.tables.proofs.Walls.{wall-free, wall-slid, wall-mirrored}
 use Rattle.grid.proofs.heights.wall.Statement.{statement}
 use Rattle.grid.proofs.heights.wall.Tie as tie
 

@@ -1,7 +1,7 @@
 -- `grid::numbering::number_in` meets its contract: by the table's answer and the edge read. Assumes nothing.
 use mathlib.Core.Bool.{false}
-use Rattle.grid.proofs.Phases.{filled-over, filled-full}
-use Rattle.grid.proofs.Tabled.{table-over}
+use Rattle.tables.proofs.Phases.{filled-over, filled-full}
+use Rattle.tables.proofs.Tabled.{table-over}
 use borrow.Author.Needs.{needs}
 use Rattle.grid.proofs.numbering.number_in.Statement.{statement}
 use Rattle.grid.proofs.numbering.number_in.Tie as tie

@@ -1,4 +1,4 @@
-use Rattle.grid.proofs.Prepare.{few-not, few-yes}
+use Rattle.tables.proofs.Prepare.{few-not, few-yes}
 use borrow.Author.Needs.{needs}
 use Rattle.grid.proofs.plan.is_few.Statement.{statement}
 use Rattle.grid.proofs.plan.is_few.Tie as tie

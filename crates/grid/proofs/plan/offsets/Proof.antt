@@ -4,9 +4,9 @@ use Prim.Native.Nat.{ℕ, _+_, _-_, _*_, _≤_, _<_}
 use native.Mathlib.Omega.{arith}
 use native.Mathlib.Nat.{not-suc-le-zero}
 use lib.ListN.{length, getD, length-set}
-use Rattle.grid.specs.Plans.{strideFor}
-use Rattle.grid.proofs.Prepare.{far-times, form-low, offset-more}
-use Rattle.grid.proofs.Planning.{stride-le}
+use Rattle.tables.specs.Plans.{strideFor}
+use Rattle.tables.proofs.Prepare.{far-times, form-low, offset-more}
+use Rattle.tables.proofs.Planning.{stride-le}
 use Rattle.grid.proofs.plan.offsets.Statement.{statement}
 use Rattle.grid.proofs.plan.offsets.Tie as tie
 

@@ -2,8 +2,8 @@
 use mathlib.Core.Path.{refl}
 use Prim.Native.Nat.{_≤_, _-_}
 use native.Mathlib.Omega.{arith}
-use Rattle.grid.specs.Table.{Steepest, Deepest}
-use Rattle.grid.proofs.Prepare.{steepest-none, steepest-more, steepest-at, deepest-none, deepest-more, deepest-at, form-pos, form-near, form-low}
+use Rattle.tables.specs.Table.{Steepest, Deepest}
+use Rattle.tables.proofs.Prepare.{steepest-none, steepest-more, steepest-at, deepest-none, deepest-more, deepest-at, form-pos, form-near, form-low}
 use borrow.Author.Needs.{needs}
 use Rattle.grid.proofs.plan.plan_of.Statement.{statement}
 use Rattle.grid.proofs.plan.plan_of.Tie as tie

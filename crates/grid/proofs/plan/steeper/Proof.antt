@@ -1,5 +1,5 @@
 use native.Mathlib.Omega.{arith}
-use Rattle.grid.proofs.Prepare.{slope-by}
+use Rattle.tables.proofs.Prepare.{slope-by}
 use borrow.Author.Needs.{needs}
 use Rattle.grid.proofs.plan.steeper.Statement.{statement}
 use Rattle.grid.proofs.plan.steeper.Tie as tie

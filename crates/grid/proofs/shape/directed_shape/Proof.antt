@@ -1,7 +1,7 @@
 -- `grid::shape::directed_shape` meets its contract: the job's own shape, lowered where its end is not below 0. Assumes nothing.
 use borrow.Author.Needs.{needs}
-use Rattle.grid.specs.Shapes.Chosen.{sunk, lowered}
-use Rattle.grid.proofs.Shaping.{laid-worked, laid-gentle}
+use Rattle.tables.specs.Shapes.Chosen.{sunk, lowered}
+use Rattle.tables.proofs.Shaping.{laid-worked, laid-gentle}
 use Rattle.grid.proofs.shape.directed_shape.Statement.{statement}
 use Rattle.grid.proofs.shape.directed_shape.Tie as tie
 

@@ -3,8 +3,8 @@
 use native.Mathlib.Nat.{mul-le-mul}
 use native.Mathlib.Omega.{arith}
 use borrow.Author.Needs.{needs}
-use Rattle.grid.specs.Shapes.Beyond.{below, above}
-use Rattle.grid.specs.Shapes.Lowered.{unreached}
+use Rattle.tables.specs.Shapes.Beyond.{below, above}
+use Rattle.tables.specs.Shapes.Lowered.{unreached}
 use Rattle.grid.proofs.shape.lowered.Statement.{statement}
 use Rattle.grid.proofs.shape.lowered.Tie as tie
 

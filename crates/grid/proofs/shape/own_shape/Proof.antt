@@ -4,8 +4,8 @@ use Prim.Native.Nat.{_≤_, _-_, _+_, _*_}
 use native.Mathlib.Omega.{arith}
 use Rattle.howmany.specs.Choose.{bit}
 use borrow.Author.Tests.{lt-ltb, le-ltb}
-use Rattle.grid.specs.Shapes.{Laying}
-use Rattle.grid.proofs.Shaping.{laid-start, laid-more}
+use Rattle.tables.specs.Shapes.{Laying}
+use Rattle.tables.proofs.Shaping.{laid-start, laid-more}
 use borrow.Author.Needs.{needs}
 use Rattle.grid.proofs.shape.own_shape.Statement.{statement}
 use Rattle.grid.proofs.shape.own_shape.Tie as tie

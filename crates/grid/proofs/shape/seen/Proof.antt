@@ -2,7 +2,7 @@
 use native.Mathlib.Nat.{mul-le-mul}
 use native.Mathlib.Omega.{arith}
 use borrow.Author.Needs.{needs}
-use Rattle.grid.proofs.Lowering.{view-lowered}
+use Rattle.tables.proofs.Lowering.{view-lowered}
 use Rattle.grid.proofs.shape.seen.Statement.{statement}
 use Rattle.grid.proofs.shape.seen.Tie as tie
 

@@ -1,6 +1,6 @@
 -- `grid::shape::shape_of` meets its contract: by family. Assumes nothing.
 use native.Mathlib.Omega.{arith}
-use Rattle.grid.proofs.Shaping.{sound-ranged, shaped-6, shaped-7}
+use Rattle.tables.proofs.Shaping.{sound-ranged, shaped-6, shaped-7}
 use Rattle.grid.proofs.shape.shape_of.Statement.{statement}
 use Rattle.grid.proofs.shape.shape_of.Tie as tie
 

@@ -6,8 +6,8 @@ use lib.ListN.{length}
 use Rattle.howmany.proofs.Choices.{holds}
 use Rattle.rules.proofs.Belows.{below-at}
 use Rattle.lines.proofs.Lining.{Lining, lining-none, lining-room, lining-part, lining-all}
-use Rattle.grid.specs.Plans.{edgeFor}
-use Rattle.grid.proofs.Builds.{front-next}
+use Rattle.tables.specs.Plans.{edgeFor}
+use Rattle.tables.proofs.Builds.{front-next}
 use borrow.Author.Needs.{needs}
 use Rattle.grid.proofs.spelling.spell_all.Statement.{statement}
 use Rattle.grid.proofs.spelling.spell_all.Tie as tie

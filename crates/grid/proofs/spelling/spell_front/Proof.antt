@@ -1,6 +1,6 @@
 -- `grid::spelling::spell_front` meets its contract: the edge is spelt at the end of a buffer, and copied. Assumes nothing.
 use mathlib.Core.Path.{refl}
-use Rattle.grid.proofs.Builds.{front-of}
+use Rattle.tables.proofs.Builds.{front-of}
 use borrow.Author.Needs.{needs}
 use Rattle.grid.proofs.spelling.spell_front.Statement.{statement}
 use Rattle.grid.proofs.spelling.spell_front.Tie as tie

@@ -2,8 +2,8 @@
 use mathlib.Core.Path.{_∙_}
 use mathlib.Core.Bool.{false}
 use borrow.Author.Tests.{not-true, not-false}
-use Rattle.grid.proofs.Phases.{filled-over, filled-count, filled-full}
-use Rattle.grid.proofs.Builds.{below-told, for-over, for-beyond, for-all}
+use Rattle.tables.proofs.Phases.{filled-over, filled-count, filled-full}
+use Rattle.tables.proofs.Builds.{below-told, for-over, for-beyond, for-all}
 use borrow.Author.Needs.{needs}
 use Rattle.grid.proofs.spelling.spell_in.Statement.{statement}
 use Rattle.grid.proofs.spelling.spell_in.Tie as tie

@@ -2,8 +2,8 @@ use mathlib.Core.Path.{_≡_, refl}
 use Prim.Native.Nat.{_+_, _≤_, _-_}
 use native.Mathlib.Omega.{arith}
 use lib.ListN.{length, length-set}
-use Rattle.grid.specs.Plans.{PreparedFor, TableFor, SmallFor}
-use Rattle.grid.proofs.Phases.{ready-len, first-in, begin-table, begin-small, begin-ready}
+use Rattle.tables.specs.Plans.{PreparedFor, TableFor, SmallFor}
+use Rattle.tables.proofs.Phases.{ready-len, first-in, begin-table, begin-small, begin-ready}
 use borrow.Author.Tests.{not-false}
 use Rattle.grid.proofs.table.fast.Statement.{statement}
 use Rattle.grid.proofs.table.fast.Tie as tie

@@ -1,6 +1,6 @@
 use native.Mathlib.Omega.{arith}
 use mathlib.Core.Path.{refl}
-use Rattle.grid.proofs.Phases.{ready-len, place-sum, end-placed, end-room, got-filled}
+use Rattle.tables.proofs.Phases.{ready-len, place-sum, end-placed, end-room, got-filled}
 use borrow.Author.Needs.{needs}
 use Rattle.grid.proofs.table.fill.Statement.{statement}
 use Rattle.grid.proofs.table.fill.Tie as tie

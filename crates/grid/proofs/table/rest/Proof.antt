@@ -3,8 +3,8 @@ use Prim.Native.Nat.{_+_, _≤_, _-_}
 use native.Mathlib.Omega.{arith}
 use borrow.Author.Needs.{needs}
 use lib.ListN.{length}
-use Rattle.grid.specs.Plans.{PreparedFor, FlaggedFor}
-use Rattle.grid.proofs.Phases.{ready-len, resume, flagged-filled, end-cells, end-room}
+use Rattle.tables.specs.Plans.{PreparedFor, FlaggedFor}
+use Rattle.tables.proofs.Phases.{ready-len, resume, flagged-filled, end-cells, end-room}
 use Rattle.grid.proofs.table.rest.Statement.{statement}
 use Rattle.grid.proofs.table.rest.Tie as tie
 

@@ -2,9 +2,9 @@ use mathlib.Core.Path.{_≡_, refl}
 use Prim.Native.Nat.{_≤_, _-_}
 use native.Mathlib.Omega.{arith}
 use lib.ListN.{length}
-use Rattle.grid.specs.Filling.{Slow, Part}
+use Rattle.tables.specs.Filling.{Slow, Part}
 use Rattle.grid.proofs.Sums.{more-le, fewer-left, all-of}
-use Rattle.grid.proofs.Phases.{place-sum, slow-placed, none-yet, put-in, parts-of, part-more, slow-done}
+use Rattle.tables.proofs.Phases.{place-sum, slow-placed, none-yet, put-in, parts-of, part-more, slow-done}
 use Rattle.grid.proofs.table.slow.Statement.{statement}
 use Rattle.grid.proofs.table.slow.Tie as tie
 

@@ -1,5 +1,5 @@
 use native.Mathlib.Omega.{arith}
-use Rattle.grid.proofs.Walls.{span-low, span-high}
+use Rattle.tables.proofs.Walls.{span-low, span-high}
 use Rattle.grid.proofs.Turns.{wide-enough, step-empty, run4, run8, pow4, pow8, seen4, seen8}
 use borrow.Author.Needs.{needs}
 use Rattle.grid.proofs.table.step.Statement.{statement}

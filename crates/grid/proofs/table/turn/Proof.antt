@@ -1,6 +1,6 @@
 use native.Mathlib.Omega.{arith}
-use Rattle.grid.proofs.Walls.{span-low, span-high}
-use Rattle.grid.proofs.Phases.{turn-none}
+use Rattle.tables.proofs.Walls.{span-low, span-high}
+use Rattle.tables.proofs.Phases.{turn-none}
 use borrow.Author.Needs.{needs}
 use Rattle.grid.proofs.table.turn.Statement.{statement}
 use Rattle.grid.proofs.table.turn.Tie as tie

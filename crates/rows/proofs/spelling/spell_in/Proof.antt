@@ -1,0 +1,72 @@
+-- `grid::corner_spelling::spell_in` meets its contract: by the table's answer and the numbers. Assumes nothing.
+use mathlib.Core.Path.{_∙_}
+use borrow.Author.Tests.{not-true, not-false}
+use mathlib.Core.Bool.{true}
+use Rattle.rows.specs.Corners.{cornerPlan}
+use Rattle.tables.proofs.Phases.{filled-over, filled-count, filled-full}
+use Rattle.tables.proofs.Builds.{below-told, for-over, for-beyond, for-all}
+use borrow.Author.Needs.{needs}
+use Rattle.rows.proofs.spelling.spell_in.Statement.{statement}
+use Rattle.rows.proofs.spelling.spell_in.Tie as tie
+
+fill-rows-requires : tie.Need-fill-rows-requires
+fill-rows-requires c κs =
+    c .before .before .before .before .before .pre .0
+
+enum-known-w : tie.Need-enum-known-w
+enum-known-w c = search needs
+
+enum-told : tie.Need-enum-told
+enum-told c = search needs
+
+same-length : tie.Need-same-length
+same-length c = search needs
+
+returns : tie.Need-returns
+returns c =
+    for-over true (cornerPlan (c .before .before .before .before .before .before .before .before .before .before .args .c)) _ _ _ _ _ (filled-over (c .before .before .before .before .fill-rows .ensures) (c .enum-told .given .1))
+
+all-below-requires : tie.Need-all-below-requires
+all-below-requires c κs = search needs
+
+same-length-2 : tie.Need-same-length-2
+same-length-2 c = search needs
+
+returns-2 : tie.Need-returns-2
+returns-2 c =
+    for-beyond true (cornerPlan (c .before .before .before .before .before .before .before .before .before .before .before .before .before .args .c)) _ _ _ _ _ (filled-count (c .before .before .before .before .before .before .before .fill-rows .ensures) (c .before .before .before .w .given .1) .1) (below-told (c .before .before .before .before .before .before .before .before .before .before .before .before .before .args .numbers .now) _ _ _ (filled-count (c .before .before .before .before .before .before .before .fill-rows .ensures) (c .before .before .before .w .given .1) .0) (c .before .all-below .ensures) ∙ not-true _ (c .if1 .taken))
+
+spell-all-requires : tie.Need-spell-all-requires
+spell-all-requires c κs =
+    (filled-full (c .before .before .before .before .before .before .before .before .before .before .fill-rows .ensures) (c .before .before .before .before .before .before .w .given .1) (c .before .before .before .before .before .before .before .before .before .before .before .before .before .before .before .before .pre .0) (search needs), below-told (c .before .before .before .before .before .before .before .before .before .before .before .before .before .before .before .before .args .numbers .now) _ _ _ (filled-count (c .before .before .before .before .before .before .before .before .before .before .fill-rows .ensures) (c .before .before .before .before .before .before .w .given .1) .0) (c .before .before .before .before .all-below .ensures) ∙ not-false _ (c .before .before .before .if1 .left), c .before .before .before .before .before .before .before .before .before .before .before .before .before .before .before .before .pre .1)
+
+same-length-3 : tie.Need-same-length-3
+same-length-3 c = search needs
+
+same-length-4 : tie.Need-same-length-4
+same-length-4 c = search needs
+
+same-length-5 : tie.Need-same-length-5
+same-length-5 c = search needs
+
+returns-3 : tie.Need-returns-3
+returns-3 c =
+    for-all true (cornerPlan (c .before .before .before .before .before .before .before .before .before .before .before .before .before .before .before .before .before .before .before .before .before .args .c)) _ _ _ _ _ _ _ _ (filled-count (c .before .before .before .before .before .before .before .before .before .before .before .before .before .before .before .fill-rows .ensures) (c .before .before .before .before .before .before .before .before .before .before .before .w .given .1) .1) (below-told (c .before .before .before .before .before .before .before .before .before .before .before .before .before .before .before .before .before .before .before .before .before .args .numbers .now) _ _ _ (filled-count (c .before .before .before .before .before .before .before .before .before .before .before .before .before .before .before .fill-rows .ensures) (c .before .before .before .before .before .before .before .before .before .before .before .w .given .1) .0) (c .before .before .before .before .before .before .before .before .before .all-below .ensures) ∙ not-false _ (c .before .before .before .before .before .before .before .before .if1 .left)) (c .before .before .before .before .spell-all .ensures)
+
+pub spell-in-spec : {M : Type 1} → statement M
+spell-in-spec =
+    tie.close
+    (tie.spec
+    fill-rows-requires
+    enum-known-w
+    enum-told
+    same-length
+    returns
+    all-below-requires
+    same-length-2
+    returns-2
+    spell-all-requires
+    same-length-3
+    same-length-4
+    same-length-5
+    returns-3)

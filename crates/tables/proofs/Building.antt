@@ -1,0 +1,212 @@
+-- The edge of a number, written from its end over a filled table. Assumes nothing.
+--
+--   seek-here, seek-more, seek-end    the loop of `seek`
+--   unr, unr-start, unr-step     the steps of the edge of a number, the last one first
+--   write-turn, write-done       a byte written in front of the others, and all of them
+--   Writing, writing-start, written, write-as, writing-end    the loop of `spell`
+use mathlib.Core.Path.{_≡_, refl, sym, ap, ap₂, _∙_}
+use mathlib.Core.Bool.{Bool}
+use mathlib.Core.Option.{Option, some}
+use mathlib.Core.List.{List, [], _∷_, _++_, map, reverse, reverse-cons, reverse-reverse, append-nil}
+use Prim.Native.Nat.{ℕ, zero, suc, _+_, _-_, _*_, _^_, _≤_, _<_}
+use native.Mathlib.Omega.{arith}
+use native.Mathlib.Decide.{decLe}
+use native.Mathlib.Nat.{not-suc-le-zero}
+use lib.Dec.{T}
+use lib.ListN.{length, getD, drop, set, length-set, drop-of-length-le}
+use lib.Seq.{drop-cons, getD-set-same, drop-set-lt, append-snoc, lt-length-set}
+use borrow.Author.Tests.{ne-eqb}
+use Rattle.rules.proofs.Letters.{map-reverse}
+use Rattle.howmany.specs.Sum.{sum, Falls}
+use Rattle.howmany.proofs.Sums.{sum-cong}
+use Rattle.backward.specs.Reader.{count, unrank}
+use Rattle.backward.specs.Grid.{Spot, grid, paths}
+use Rattle.backward.proofs.Backward.{unrank-start, unrank-step}
+use Rattle.backward.proofs.Grids.{grid-lawful}
+use Rattle.tables.specs.Form.{wall, stepsIn, spot, W, via}
+use Rattle.letters.specs.Letters.{glyphOf}
+use Rattle.tables.specs.Cells.{place}
+use Rattle.tables.specs.declared.Plan as plans
+use Rattle.tables.specs.Table.{Slopes}
+use Rattle.tables.specs.Edges.{endOf, edgeOf, Reads, Sought}
+use Rattle.tables.specs.Plans.{walksFor, edgeFor}
+use Rattle.tables.specs.Filling.{Full}
+use Rattle.tables.proofs.Walls.{tested, wall-start}
+use Rattle.tables.proofs.Laws.{onward, sum-more, via-in, via-left, via-under, W-start, W-out, W-step}
+use Rattle.tables.proofs.Counts.{pos-of}
+use Rattle.tables.proofs.Reading.{back-is, end-in}
+use Rattle.tables.proofs.Numbers.{brought, Stand, reads-at, stand-back}
+
+-- ---- the loop of `seek`: i steps are passed, which stand for all of r but left
+
+module _ (g : ℕ → ℕ) (i k left r : ℕ) (at : sum g i + left ≡ r) where
+  module _ (l : i < k) (v : ℕ) (is : v ≡ g i) where
+    pub seek-here : left < v → Sought g k r i left
+    seek-here h = record { falls = record { inside = l; low = omega arith; high = omega arith }; left = at }
+
+    pub seek-more : v ≤ left → sum g (i + 1) + (left - v) ≡ r
+    seek-more h = omega (arith, sum-more g i)
+
+  pub seek-end : i ≤ k → k ≤ i → r < sum g k → ⊥
+  seek-end h m q = let e : i ≡ k = omega arith in omega (arith, ap (sum g) e)
+
+-- ---- the steps of an edge
+
+falls-cong : (g h : ℕ → ℕ) (k r l : ℕ) → ((j : ℕ) → g j ≡ h j) → Falls g k r l → Falls h k r l
+falls-cong g h k r l e p =
+    let s : sum g l ≡ sum h l = sum-cong g h l (λ j _. e j) in
+    record { inside = p .inside; low = omega (arith, p .low); high = omega (arith, p .high, e l) }
+
+unfoldable pub unr : ℕ → ℕ → List ℕ → List ℕ → ℕ → ℕ → ℕ → List ℕ
+unr k f sa sc x y r = unrank (grid (stepsIn k f sa sc)) (endOf k f sa sc x y) r
+
+module _ (k f : ℕ) (sa sc : List ℕ) (pos : (i : ℕ) → i < k → 1 ≤ getD sa i 0) where
+  count-in : (x y : ℕ) → T (wall f x y) → count (grid (stepsIn k f sa sc)) (some (spot x y)) ≡ W k f sa sc x y
+  unfolding W paths
+  count-in x y h = ap (count (grid (stepsIn k f sa sc))) (sym (end-in k f sa sc x y h))
+
+  at-zero : (y r : ℕ) → r < W k f sa sc 0 y → y ≡ 0
+  at-zero zero r h = refl
+  at-zero (suc y) r h = let e : W k f sa sc 0 (suc y) ≡ 0 = W-start k f sa sc pos (suc y) ∙ rw (ne-eqb (suc y) 0 (λ q. omega arith)) in absurd (omega arith)
+
+  start-at : (r : ℕ) → r < W k f sa sc 0 0 → unr k f sa sc 0 0 r ≡ []
+  unfolding unr
+  start-at r h =
+      ap (λ (m : Option Spot). unrank (grid (stepsIn k f sa sc)) m r) (end-in k f sa sc 0 0 (wall-start f))
+      ∙ unrank-start (grid (stepsIn k f sa sc)) (grid-lawful (stepsIn k f sa sc) (onward k f sa sc pos)) (spot 0 0) r tt (omega (arith, count-in 0 0 (wall-start f)))
+
+  pub unr-start : (x y r : ℕ) → x ≤ 0 → r < W k f sa sc x y → unr k f sa sc x y r ≡ []
+  unr-start x y r l h =
+      let z : x ≡ 0 = omega arith in
+      let h′ : r < W k f sa sc 0 y = rw z at h in
+      let n : y ≡ 0 = at-zero y r h′ in
+      rw (z, n) (start-at r (rw n at h′))
+
+  pub unr-step : (x y r l rest : ℕ) → T (wall f x y) → Sought (via k f sa sc x y) k r l rest → getD sa l 0 ≤ x → getD sc l 0 ≤ y
+      → unr k f sa sc x y r ≡ l ∷ unr k f sa sc (x - getD sa l 0) (y - getD sc l 0) rest
+  unfolding unr
+  unr-step x y r l rest h so a c =
+      let g : ℕ → ℕ = λ j. count (grid (stepsIn k f sa sc)) (grid (stepsIn k f sa sc) .back (spot x y) j) in
+      let q : r - sum g l ≡ rest = omega (arith, so .left, sum-cong g (via k f sa sc x y) l (λ j _. brought k f sa sc pos x y j)) in
+      ap (λ (m : Option Spot). unrank (grid (stepsIn k f sa sc)) m r) (end-in k f sa sc x y h)
+      ∙ unrank-step (grid (stepsIn k f sa sc)) (grid-lawful (stepsIn k f sa sc) (onward k f sa sc pos)) (spot x y) r l (falls-cong (via k f sa sc x y) g k r l (λ j. sym (brought k f sa sc pos x y j)) (so .falls))
+      ∙ ap (λ (w : List ℕ). l ∷ w) (ap₂ (unrank (grid (stepsIn k f sa sc))) (back-is k f sa sc x y l a c) q)
+
+  -- a step that brings something comes from inside the table
+  pub via-pos : (x y l rest : ℕ) → rest < via k f sa sc x y l → (getD sa l 0 ≤ x) × (getD sc l 0 ≤ y) × (rest < W k f sa sc (x - getD sa l 0) (y - getD sc l 0))
+  via-pos x y l rest h = elim (decLe (getD sa l 0) x) [
+    | yes a ↦ elim (decLe (getD sc l 0) y) [
+      | yes c ↦ (a, c, omega (arith, via-in k f sa sc x y l a c))
+      | no r ↦ absurd (omega (arith, via-under k f sa sc x y l a (omega arith)))
+    ]
+    | no r ↦ absurd (omega (arith, via-left k f sa sc x y l (omega arith)))
+  ]
+
+  pub W-in : (x y r : ℕ) → r < W k f sa sc x y → T (wall f x y)
+  W-in x y r h = elim (tested (wall f x y)) [ yes p ↦ p | no q ↦ absurd (omega (arith, W-out k f sa sc pos x y q)) ]
+
+-- ---- bytes written at the end of a buffer
+
+write-start : (l t : List ℕ) (n : ℕ) → length l ≡ n → reverse (drop n l) ++ t ≡ t
+write-start l t n e = rw (drop-of-length-le l {i = n} (omega arith))
+
+write-turn : (buf : List ℕ) (s v : ℕ) (t u : List ℕ) → 0 < s → s ≤ length buf → t ≡ v ∷ u → reverse (drop (s - 1) (set buf (s - 1) v)) ++ u ≡ reverse (drop s buf) ++ t
+write-turn buf zero v t u p b q = absurd (not-suc-le-zero p)
+write-turn buf (suc d) v t u p b q =
+    let e : suc d - 1 ≡ d = omega arith in
+    rw (e, drop-cons (set buf d v) d 0 (lt-length-set buf d v b), getD-set-same buf d v 0 b, drop-set-lt (suc d) buf d v (omega arith), reverse-cons v (drop (suc d) buf), q)
+    (append-snoc (reverse (drop (suc d) buf)) v u)
+
+write-done : (buf t u : List ℕ) (s : ℕ) → t ≡ [] → reverse (drop s buf) ++ t ≡ u → drop s buf ≡ reverse u
+write-done buf t u s n e = sym (reverse-reverse (drop s buf)) ∙ ap reverse (sym (append-nil (reverse (drop s buf))) ∙ ap (λ (z : List ℕ). reverse (drop s buf) ++ z) (sym n) ∙ e)
+
+-- ---- the loop of `spell`
+
+pub record Writing (corner : Bool) (p : plans.Plan) (sa sc off val : List ℕ) (r : ℕ) (buf₀ buf : List ℕ) (x y cell left s : ℕ) : Type 0 where
+  pub full : Full p sa sc off val
+  pub stand : Stand p sa sc x y cell
+  pub less : left < W (p .k) (p .f) sa sc x y
+  pub x-le : x ≤ s
+  pub s-le : s ≤ 128
+  pub room : length buf ≡ 128
+  pub so-far : reverse (drop s buf) ++ map (glyphOf corner) (unr (p .k) (p .f) sa sc x y left) ≡ map (glyphOf corner) (unr (p .k) (p .f) sa sc (p .ex) (p .ey) r)
+
+pub record Written (corner : Bool) (p : plans.Plan) (sa sc off val : List ℕ) (r : ℕ) (buf₀ buf : List ℕ) (x y cell s l rest : ℕ) : Type 0 where
+  pub below : l < 8
+  pub byte : l * 8 < 2 ^ 64
+  pub least : 1 ≤ s
+  pub inside : s - 1 < length buf
+  pub right : getD sa l 0 ≤ x
+  pub up : getD sc l 0 ≤ y
+  pub far : getD off l 0 ≤ cell
+  pub ahead : x - getD sa l 0 < x
+  pub next : (v : ℕ) → v ≡ glyphOf corner l → Writing corner p sa sc off val r buf₀ (set buf (s - 1) v) (x - getD sa l 0) (y - getD sc l 0) (cell - getD off l 0) rest (s - 1)
+
+-- the same by numbers that the code has at hand
+pub write-as : {corner : Bool} {p : plans.Plan} {sa sc off val : List ℕ} {r : ℕ} {buf₀ buf : List ℕ} {x y cell s l rest : ℕ} → Written corner p sa sc off val r buf₀ buf x y cell s l rest → {a o v : ℕ}
+    → a ≡ getD sa l 0 → o ≡ getD off l 0 → v ≡ glyphOf corner l → Writing corner p sa sc off val r buf₀ (set buf (s - 1) v) (x - a) (y - getD sc l 0) (cell - o) rest (s - 1)
+write-as t ea eo ev = rw (ea, eo) (t .next _ ev)
+
+module _ {corner : Bool} {p : plans.Plan} {sa sc off val : List ℕ} {r : ℕ} {buf₀ : List ℕ} where
+  pub writing-start : Full p sa sc off val → r < walksFor p sa sc → length buf₀ ≡ 128 → (cell : ℕ) → cell ≡ place (p .m) (p .ey) (p .ex) (p .ey) → Writing corner p sa sc off val r buf₀ buf₀ (p .ex) (p .ey) cell r 128
+  writing-start fu less long cell ep = record {
+    full = fu;
+    stand = record { end = omega arith; ends = (omega arith, omega arith); at = ep; fits = fu .fits };
+    less = less;
+    x-le = omega (arith, fu .ready .sizes .ex-le);
+    s-le = omega arith;
+    room = long;
+    so-far = write-start buf₀ _ 128 long;
+  }
+
+  module _ {buf : List ℕ} {x y cell left s : ℕ} (w : Writing corner p sa sc off val r buf₀ buf x y cell left s) where
+    plan-of : Slopes (p .k) sa sc (p .hi) (p .m) (p .ex)
+    plan-of = w .full .ready .slopes
+
+    pub writing-end : x ≤ 0 → (s ≤ 128) × (drop s buf ≡ edgeFor corner p sa sc r)
+    unfolding edgeOf unr
+    writing-end h = (
+      w .s-le,
+      write-done buf _ (map (glyphOf corner) (unr (p .k) (p .f) sa sc (p .ex) (p .ey) r)) s (ap (map (glyphOf corner)) (unr-start (p .k) (p .f) sa sc (pos-of plan-of) x y left h (w .less))) (w .so-far)
+          ∙ map-reverse (glyphOf corner) (unr (p .k) (p .f) sa sc (p .ex) (p .ey) r),
+    )
+
+    module _ (px : 0 < x) where
+      inside-of : T (wall (p .f) x y)
+      inside-of = W-in (p .k) (p .f) sa sc (pos-of plan-of) x y left (w .less)
+
+      pub reads-of : Reads (p .k) (p .f) sa sc off val x y cell
+      reads-of = reads-at (w .full) (w .stand) px inside-of
+
+      pub left-of : left < sum (via (p .k) (p .f) sa sc x y) (p .k)
+      left-of = omega (arith, w .less, W-step (p .k) (p .f) sa sc (pos-of plan-of) x y px inside-of)
+
+      pub written : (l rest : ℕ) → Sought (via (p .k) (p .f) sa sc x y) (p .k) left l rest → Written corner p sa sc off val r buf₀ buf x y cell s l rest
+      written l rest so = record {
+        below = omega (arith, plan-of .most, so .falls .inside);
+        byte = omega (arith, plan-of .most, so .falls .inside);
+        least = omega (arith, w .x-le);
+        inside = omega (arith, w .x-le, w .s-le, w .room);
+        right = vp .0;
+        up = vp .1;
+        far = reads-of .back l (so .falls .inside) (vp .0);
+        ahead = omega (arith, vp .0, go-on);
+        next = λ v ev. record {
+          full = w .full;
+          stand = stand-back (w .full) (w .stand) px inside-of l _ _ _ (so .falls .inside) refl refl refl (vp .0) (vp .1);
+          less = vp .2;
+          x-le = omega (arith, w .x-le, go-on);
+          s-le = omega (arith, w .s-le);
+          room = simp length-set (w .room);
+          so-far = write-turn buf s v (map (glyphOf corner) (unr (p .k) (p .f) sa sc x y left)) _ (omega (arith, w .x-le)) (omega (arith, w .s-le, w .room)) (letters v ev) ∙ w .so-far;
+        };
+      }
+        where
+          vp : (getD sa l 0 ≤ x) × (getD sc l 0 ≤ y) × (rest < W (p .k) (p .f) sa sc (x - getD sa l 0) (y - getD sc l 0))
+          vp = via-pos (p .k) (p .f) sa sc (pos-of plan-of) x y l rest (omega (arith, so .left, so .falls .high))
+
+          go-on : 1 ≤ getD sa l 0
+          go-on = pos-of plan-of l (so .falls .inside)
+
+          letters : (v : ℕ) → v ≡ glyphOf corner l → map (glyphOf corner) (unr (p .k) (p .f) sa sc x y left) ≡ v ∷ map (glyphOf corner) (unr (p .k) (p .f) sa sc (x - getD sa l 0) (y - getD sc l 0) rest)
+          letters v ev = ap (map (glyphOf corner)) (unr-step (p .k) (p .f) sa sc (pos-of plan-of) x y left l rest inside-of so (vp .0) (vp .1)) ∙ ap (λ (z : ℕ). z ∷ map (glyphOf corner) (unr (p .k) (p .f) sa sc (x - getD sa l 0) (y - getD sc l 0) rest)) (sym ev)

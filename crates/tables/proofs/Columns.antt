@@ -1,0 +1,218 @@
+-- A column of the table from those before it. Assumes nothing.
+--
+--   source-left, source-in    where a step finds what it brings
+--   rows, grow, one-more      rows of cells
+--   brings                    what stands where a step comes from is what it brings
+--   none-below, none-above    a height that matters and isn't in the run has no walks
+--   sheet-next, sheet-same    the sheet after a column, and where a column has no height that matters
+--   run-of                    a column's run can be summed
+--   column-table              the table after it
+--   pow-small-8, pow-small-4, most-small, empty-small    when the next column needs no test
+--   empty-table               the table after a column with no height that matters
+use mathlib.Core.Path.{_≡_, sym, ap, _∙_}
+use mathlib.Core.List.{List}
+use Prim.Native.Nat.{ℕ, _+_, _-_, _*_, _≤_, _<_}
+use native.Mathlib.Omega.{arith}
+use native.Mathlib.Decide.{decLe, decLt}
+use native.Mathlib.Nat.{mul-add, add-mul, mul-le-mul-right}
+use lib.ListN.{length, getD}
+use borrow.Author.Tests.{lt-ltb, le-ltb}
+use Rattle.howmany.specs.Sum.{sum}
+use Rattle.howmany.proofs.Sums.{sum-cong}
+use Rattle.tables.specs.Form.{wall, W, via}
+use Rattle.tables.specs.Cells.{strideOf, place, sourceOf, colOf, Run, Column}
+use Rattle.tables.specs.Table.{Offsets, Slopes, Ends, From, To, Cells, Sheet, Table, Small}
+use Rattle.tables.proofs.Walls.{tested, wall-in}
+use Rattle.tables.proofs.Laws.{sum-le, via-any, via-left, via-under, via-in, W-out}
+use Rattle.tables.proofs.Counts.{pos-of, W-high, W-first, W-pow}
+
+module _ (sa off : List ℕ) (x p i : ℕ) where
+  pub source-left : x < getD sa i 0 → sourceOf sa off x p i ≡ 0
+  unfolding sourceOf
+  source-left h = rw (lt-ltb x (getD sa i 0) h)
+
+  pub source-in : getD sa i 0 ≤ x → sourceOf sa off x p i ≡ p - getD off i 0
+  unfolding sourceOf
+  source-in h = rw (le-ltb x (getD sa i 0) h)
+
+-- rows of s cells
+module _ (s : ℕ) where
+  pub rows : (x a : ℕ) → a ≤ x → (x - a + 1) * s + a * s ≡ (x + 1) * s
+  rows x a l = let e : x - a + 1 + a ≡ x + 1 = omega arith in sym (add-mul (x - a + 1) a s) ∙ ap (λ (z : ℕ). z * s) e
+
+  pub grow : (u v : ℕ) → u ≤ v → u * s ≤ v * s
+  grow u v l = mul-le-mul-right s l
+
+  pub one-more : (u : ℕ) → (u + 1) * s ≡ u * s + s
+  one-more u = let e : 1 * s ≡ s = omega arith in add-mul u 1 s ∙ ap (λ (z : ℕ). u * s + z) e
+
+module _ {k f : ℕ} {sa sc off : List ℕ} {hi m ex ey : ℕ} (pl : Slopes k sa sc hi m ex) (of : Offsets sa sc off (strideOf m ey)) {A : Type 0} {T : ℕ → A} {at : ℕ → A} {x : ℕ} (tb : Cells T at k f sa sc hi m ex ey x) (px : 1 ≤ x) (lx : x ≤ ex) where
+  -- what stands where a step comes from
+  module _ (from t i : ℕ) (li : i < 8) (le : from + t ≤ ey) (en : 6 * ey ≤ 6 * (from + t) + hi * (ex - x)) where
+    a : ℕ
+    a = getD sa i 0
+
+    c : ℕ
+    c = getD sc i 0
+
+    spot : a ≤ x → c ≤ from + t → place m ey x from - getD off i 0 + t ≡ place m ey (x - a) (from + t - c)
+    unfolding a c
+    spot ha hc = omega (arith, rows (strideOf m ey) x (getD sa i 0) ha, of .is i li, pl .deep i li (omega arith))
+
+    low-spot : a ≤ x → from + t < c → place m ey x from - getD off i 0 + t ≡ (x - a + 1) * strideOf m ey + (m + (from + t) - c)
+    unfolding a c
+    low-spot ha hc = omega (arith, rows (strideOf m ey) x (getD sa i 0) ha, of .is i li, pl .deep i li (omega arith))
+
+    pub brings : at (sourceOf sa off x (place m ey x from) i + t) ≡ T (via k f sa sc x (from + t) i)
+    unfolding a c
+    brings =
+        elim (decLe (getD sa i 0) x) [
+          | yes ha ↦ rw (source-in sa off x (place m ey x from) i ha)
+              (elim (decLe (getD sc i 0) (from + t)) [
+                | yes hc ↦ rw (spot ha hc) (tb .right (x - getD sa i 0) (from + t - getD sc i 0) (omega (arith, pl .pos i li))
+                    (omega arith, omega (arith, pl .steep i li (omega arith), mul-add hi (ex - x) (getD sa i 0), ap (λ (z : ℕ). hi * z) (further ha)))
+                    ∙ ap T (sym (via-in k f sa sc x (from + t) i ha hc)))
+                | no hc ↦ rw (low-spot ha (omega arith)) (tb .margin (x - getD sa i 0 + 1) (m + (from + t) - getD sc i 0) (omega (arith, pl .deep i li (omega arith)))
+                    ∙ ap T (sym (via-under k f sa sc x (from + t) i ha (omega arith))))
+              ])
+          | no ha ↦ rw (source-left sa off x (place m ey x from) i (omega arith)) (tb .front (0 + t) (omega arith) ∙ ap T (sym (via-left k f sa sc x (from + t) i (omega arith))))
+        ]
+      where
+        further : getD sa i 0 ≤ x → ex - (x - getD sa i 0) ≡ ex - x + getD sa i 0
+        further ha = omega arith
+
+  -- a height that matters and isn't in the run has no walks
+  module _ (from to : ℕ) (fr : From f hi ex ey x from) (up : To f hi ey x to) where
+    pub none-below : (y : ℕ) → Ends hi ex ey x y → y < from → W k f sa sc x y ≡ 0
+    none-below y en l = W-out k f sa sc (pos-of pl) x y (fr .least y l (en .1))
+
+    pub none-above : (y : ℕ) → Ends hi ex ey x y → to ≤ y → W k f sa sc x y ≡ 0
+    none-above y en l = elim (tested (wall f x y)) [
+      | yes t ↦ W-high k f sa sc pl x x y (omega arith) lx (up .beyond y l (en .0) t)
+      | no t ↦ W-out k f sa sc (pos-of pl) x y t
+    ]
+
+    -- the table after a column
+    module _ (blank : (j : ℕ) → (x + 1) * strideOf m ey ≤ j → at j ≡ T 0) (lt : from < to) (at′ : ℕ → A) (before : (j : ℕ) → j < place m ey x from → at′ j ≡ at j) (after : (j : ℕ) → place m ey x to ≤ j → at′ j ≡ at j)
+        (here : (y : ℕ) → from ≤ y → y < to → at′ (place m ey x y) ≡ T (W k f sa sc x y)) where
+      at-x : (y : ℕ) → Ends hi ex ey x y → at′ (place m ey x y) ≡ T (W k f sa sc x y)
+      at-x y en =
+          elim (decLt y from) [
+            | yes l ↦ before (place m ey x y) (omega arith) ∙ blank (place m ey x y) (omega arith) ∙ ap T (sym (none-below y en l))
+            | no l ↦ elim (decLe to y) [
+              | yes r ↦ after (place m ey x y) (omega arith) ∙ blank (place m ey x y) (omega arith) ∙ ap T (sym (none-above y en r))
+              | no r ↦ here y (omega arith) (omega arith)
+            ]
+          ]
+
+      pub sheet-next : Sheet T at′ k f sa sc hi m ex ey (x + 1)
+      sheet-next = record {
+        cells = record {
+          right = λ u y l en. elim (decLt u x) [
+            | yes h ↦ before (place m ey u y) (omega (arith, en .0, one-more (strideOf m ey) (u + 1), grow (strideOf m ey) (u + 1 + 1) (x + 1) (omega arith))) ∙ tb .right u y h en
+            | no h ↦ same u y l h en
+          ];
+          margin = λ u t l. elim (decLe u (x + 1)) [
+            | yes h ↦ before (u * strideOf m ey + t) (omega (arith, grow (strideOf m ey) u (x + 1) h)) ∙ tb .margin u t l
+            | no h ↦ after (u * strideOf m ey + t) (omega (arith, up .under, one-more (strideOf m ey) (x + 1), grow (strideOf m ey) (x + 1 + 1) u (omega arith))) ∙ tb .margin u t l
+          ];
+          front = λ t l. before t (omega (arith, grow (strideOf m ey) 1 (x + 1) (omega arith))) ∙ tb .front t l;
+        };
+        blank = λ j l. after j (omega (arith, up .under, one-more (strideOf m ey) (x + 1))) ∙ blank j (omega (arith, one-more (strideOf m ey) (x + 1)));
+      }
+        where
+          same : (u y : ℕ) → u < x + 1 → (u < x → ⊥) → Ends hi ex ey u y → at′ (place m ey u y) ≡ T (W k f sa sc u y)
+          same u y l h en = let e : u ≡ x = omega arith in rw e (at-x y (rw e at en))
+
+    -- the table where the column has no height that matters
+    pub sheet-same : ((j : ℕ) → (x + 1) * strideOf m ey ≤ j → at j ≡ T 0) → to ≤ from → Sheet T at k f sa sc hi m ex ey (x + 1)
+    sheet-same blank le = record {
+      cells = record {
+        right = λ u y l en. elim (decLt u x) [ yes h ↦ tb .right u y h en | no h ↦ same u y l h en ];
+        margin = tb .margin;
+        front = tb .front;
+      };
+      blank = λ j l. blank j (omega (arith, one-more (strideOf m ey) (x + 1)));
+    }
+      where
+        none : (y : ℕ) → Ends hi ex ey x y → W k f sa sc x y ≡ 0
+        none y en = elim (decLt y from) [ yes l ↦ none-below y en l | no l ↦ none-above y en (omega arith) ]
+
+        same : (u y : ℕ) → u < x + 1 → (u < x → ⊥) → Ends hi ex ey u y → at (place m ey u y) ≡ T (W k f sa sc u y)
+        same u y l h en = let e : u ≡ x = omega arith in rw e (blank (place m ey x y) (omega arith) ∙ ap T (sym (none y (rw e at en))))
+
+module _ {k f : ℕ} {sa sc off : List ℕ} {hi m ex ey : ℕ} (pl : Slopes k sa sc hi m ex) (of : Offsets sa sc off (strideOf m ey)) (val : List ℕ) {x : ℕ} (tb : Table k f sa sc hi m ex ey val x) (px : 1 ≤ x) (lx : x ≤ ex) where
+  module _ (n : ℕ) (n-pos : 1 ≤ n) (n-le : n ≤ 8) (gone : (i : ℕ) → n ≤ i → i < 8 → ex < getD sa i 0) (from to : ℕ) (fr : From f hi ex ey x from) (up : To f hi ey x to) where
+    ends-at : (t : ℕ) → from + t < to → Ends hi ex ey x (from + t)
+    ends-at t l = (omega (arith, up .under), omega (arith, fr .ends))
+
+    sums : (t : ℕ) → from + t < to → colOf n val sa off x (place m ey x from) t ≡ sum (via k f sa sc x (from + t)) n
+    sums t l = sum-cong _ _ n (λ i li. brings pl of (tb .cells) px lx from t i (omega arith) (ends-at t l .0) (ends-at t l .1))
+
+    sums-are : (t : ℕ) → from + t < to → colOf n val sa off x (place m ey x from) t ≡ W k f sa sc x (from + t)
+    sums-are t l = sums t l ∙ sym (W-first k f sa sc pl n n-pos n-le gone x (from + t) px lx (wall-in fr up (from + t) (omega arith) l))
+
+    pub run-of : from < to → (ex + 2) * strideOf m ey ≤ length val → Small k f sa sc hi ex ey x → Run n val sa off x (place m ey x from) (to - from)
+    run-of lt room sm = record {
+      inside = omega (arith, up .under, one-more (strideOf m ey) (x + 1), grow (strideOf m ey) (x + 1 + 1) (ex + 2) (omega arith));
+      back = λ i li ha. omega (arith, rows (strideOf m ey) x (getD sa i 0) ha, of .is i (omega arith), pl .deep i (omega arith) (omega arith));
+      apart = λ i li. elim (decLe (getD sa i 0) x) [
+        | yes ha ↦ rw (source-in sa off x (place m ey x from) i ha) (omega (arith, up .under, rows (strideOf m ey) x (getD sa i 0) ha, of .is i (omega arith), pl .deep i (omega arith) (omega arith), pl .pos i (omega arith), grow (strideOf m ey) 1 (getD sa i 0) (pl .pos i (omega arith))))
+        | no ha ↦ rw (source-left sa off x (place m ey x from) i (omega arith)) (omega (arith, up .under, grow (strideOf m ey) 1 (x + 1) (omega arith)))
+      ];
+      fits = λ t lt′. rw (sums t (omega arith)) (omega (
+        arith,
+        sum-le (via k f sa sc x (from + t)) 2305843009213693951 n
+            (λ i li. via-any k f sa sc (λ v. v ≤ 2305843009213693951) x (from + t) i (omega arith)
+            (λ ha hc. sm .small (x - getD sa i 0) (from + t - getD sc i 0) (omega (arith, pl .pos i (omega arith))) (back-ends t (omega arith) i (omega arith) ha hc))),
+      ));
+    }
+      where
+        back-ends : (t : ℕ) → from + t < to → (i : ℕ) → i < 8 → getD sa i 0 ≤ x → getD sc i 0 ≤ from + t → Ends hi ex ey (x - getD sa i 0) (from + t - getD sc i 0)
+        back-ends t l i li ha hc = let e : ex - (x - getD sa i 0) ≡ ex - x + getD sa i 0 = omega arith in
+            (omega (arith, ends-at t l .0), omega (arith, ends-at t l .1, pl .steep i li (omega arith), mul-add hi (ex - x) (getD sa i 0), ap (λ (z : ℕ). hi * z) e))
+
+  small-next : Small k f sa sc hi ex ey x → ((y : ℕ) → Ends hi ex ey x y → W k f sa sc x y ≤ 2305843009213693951) → Small k f sa sc hi ex ey (x + 1)
+  small-next sm all = record { small = λ u y l en. elim (decLt u x) [ yes h ↦ sm .small u y h en | no h ↦ same u y l h en ] }
+    where
+      same : (u y : ℕ) → u < x + 1 → (u < x → ⊥) → Ends hi ex ey u y → W k f sa sc u y ≤ 2305843009213693951
+      same u y l h en = let e : u ≡ x = omega arith in rw e (all y (rw e at en))
+
+  pub pow-small-8 : x ≤ 20 → Small k f sa sc hi ex ey x → Small k f sa sc hi ex ey (x + 1)
+  pow-small-8 l sm = small-next sm (λ y en. omega (arith, W-pow k f sa sc pl 8 (omega arith) (omega arith) (λ i p q. absurd (omega arith)) 20 x y l lx))
+
+  pub pow-small-4 : ((i : ℕ) → 4 ≤ i → i < 8 → ex < getD sa i 0) → x ≤ 30 → Small k f sa sc hi ex ey x → Small k f sa sc hi ex ey (x + 1)
+  pow-small-4 gone l sm = small-next sm (λ y en. omega (arith, W-pow k f sa sc pl 4 (omega arith) (omega arith) gone 30 x y l lx))
+
+  module _ (from to : ℕ) (fr : From f hi ex ey x from) (up : To f hi ey x to) where
+    -- the table after a column
+    module _ (n : ℕ) (n-pos : 1 ≤ n) (n-le : n ≤ 8) (gone : (i : ℕ) → n ≤ i → i < 8 → ex < getD sa i 0) (lt : from < to) (val′ : List ℕ) (co : Column n val val′ sa off x (place m ey x from) (to - from)) where
+      here-at : (y : ℕ) → from ≤ y → y < to → getD val′ (place m ey x y) 0 ≡ W k f sa sc x y
+      here-at y p q =
+          let e : from + (y - from) ≡ y = omega arith in
+          let g : place m ey x y ≡ place m ey x from + (y - from) = omega arith in
+          rw g (co .here (y - from) (omega arith) ∙ sums-are n n-pos n-le gone from to fr up (y - from) (omega arith) ∙ ap (W k f sa sc x) e)
+
+      pub column-table : Table k f sa sc hi m ex ey val′ (x + 1)
+      column-table = sheet-next pl of (tb .cells) px lx from to fr up (tb .blank) lt (λ j. getD val′ j 0) (co .before) after-at here-at
+        where
+          after-at : (j : ℕ) → place m ey x to ≤ j → getD val′ j 0 ≡ getD val j 0
+          after-at j l = co .after j (omega arith)
+
+      pub most-small : (r : ℕ) → Small k f sa sc hi ex ey x → ((i : ℕ) → i < to - from → getD val′ (place m ey x from + i) 0 ≤ r) → r ≤ 2305843009213693951 → Small k f sa sc hi ex ey (x + 1)
+      most-small r sm all le = small-next sm (λ y en. elim (decLt y from) [
+        | yes l ↦ omega (arith, none-below pl of (tb .cells) px lx from to fr up y en l)
+        | no l ↦ elim (decLe to y) [
+          | yes q ↦ omega (arith, none-above pl of (tb .cells) px lx from to fr up y en q)
+          | no q ↦ omega (arith, here-at y (omega arith) (omega arith), all (y - from) (omega arith), spot-of y (omega arith))
+        ]
+      ])
+        where
+          spot-of : (y : ℕ) → from ≤ y → getD val′ (place m ey x y) 0 ≡ getD val′ (place m ey x from + (y - from)) 0
+          spot-of y h = let g : place m ey x y ≡ place m ey x from + (y - from) = omega arith in ap (λ (j : ℕ). getD val′ j 0) g
+
+    pub empty-small : to ≤ from → Small k f sa sc hi ex ey x → Small k f sa sc hi ex ey (x + 1)
+    empty-small le sm = small-next sm (λ y en. elim (decLt y from) [ yes l ↦ omega (arith, none-below pl of (tb .cells) px lx from to fr up y en l) | no l ↦ omega (arith, none-above pl of (tb .cells) px lx from to fr up y en (omega arith)) ])
+
+    pub empty-table : to ≤ from → Table k f sa sc hi m ex ey val (x + 1)
+    empty-table le = sheet-same pl of (tb .cells) px lx from to fr up (tb .blank) le

@@ -1,0 +1,17 @@
+pub mod Walls
+pub mod Laws
+pub mod Counts
+pub mod Columns
+pub mod Phases
+pub mod Prepare
+pub mod Planning
+pub mod Reading
+pub mod Numbers
+pub mod Building
+pub mod Lowering
+pub mod Shaping
+pub mod Grounds
+pub mod Counted
+pub mod Tabled
+pub mod Worded
+pub mod Builds

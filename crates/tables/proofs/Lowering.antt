@@ -1,0 +1,180 @@
+-- Laws of lower heights: slopes and heights over one step more, and what a shape in lower heights shows. Assumes nothing.
+--
+--   product                                 a bound of a product
+--   slope-low, slope-high                   a step's slope, by which number of columns it has
+--   bounds-none, bounds-low, bounds-high, bounds-at    a slope that bounds the first steps, one step more, all steps
+--   heights-none, heights-more, heights-at  the heights of the first steps, of one more, of all
+--   view-lowered                            a shape slid down or mirrored shows what it did
+--   shows-same, beyond-same                 two grids with the same steps are shown alike, and have the same ends out of reach
+--   beyond-barren                           nothing leads to such an end
+use mathlib.Core.Path.{_≡_, refl, ap, _∙_}
+use mathlib.Core.Bool.{Bool, true, false}
+use mathlib.Core.List.{List}
+use Prim.Native.Nat.{ℕ, _+_, _*_, _-_, _≤_, _<_}
+use native.Mathlib.Decide.{decLt, ℕ-discrete}
+use native.Mathlib.Nat.{not-suc-le-zero, mul-le-mul, le-trans, le-refl}
+use native.Mathlib.Omega.{arith}
+use lib.ListN.{getD, set, replicate, length-set}
+use lib.Seq.{getD-set-same, getD-set-other}
+use Rattle.howmany.proofs.Cases.{eight}
+use Rattle.backward.specs.Walk.{enter}
+use Rattle.backward.specs.Grid.{Spot, Steps, grid, way}
+use Rattle.backward.specs.Shears.{Slid}
+use Rattle.backward.proofs.Carried.{Barren}
+use Rattle.backward.proofs.Shears.{below-barren, above-barren, enter-barren}
+use Rattle.tables.specs.Heights.{Height, Bounds, Heights, Turned}
+use Rattle.tables.specs.Shapes.{FormOf, Shows, stepsAt, endAt, Beyond, Lowered, View}
+use Rattle.tables.specs.Shapes.Shows.{slid, mirrored}
+use Rattle.tables.specs.Shapes.Beyond.{below, above}
+use Rattle.tables.specs.Shapes.Lowered.{reached}
+use Rattle.tables.specs.declared.Shape.{Shape}
+
+pub product : (a b c d n : ℕ) → a ≤ c → b ≤ d → c * d ≤ n → a * b ≤ n
+product a b c d n l h e = le-trans (mul-le-mul l h) e
+
+-- ---- slopes
+
+pub slope-low : (r a b c : ℕ) → a ≡ b → r * b ≤ c → r * a ≤ c
+slope-low r a b c e h = rw e h
+
+pub slope-high : (r a b c : ℕ) → a ≡ b → c ≤ r * b → c ≤ r * a
+slope-high r a b c e h = rw e h
+
+pub bounds-none : (t : Bool) (d : ℕ) (sa sc : List ℕ) → d ≤ 6 → Bounds t d 0 sa sc
+bounds-none t d sa sc l = record { small = l; each = λ i h. absurd (not-suc-le-zero h) }
+
+module _ (sa sc : List ℕ) (d e i : ℕ) where
+  pub bounds-low : Bounds false d i sa sc → e ≤ d → e * getD sa i 0 ≤ getD sc i 0 → Bounds false e (i + 1) sa sc
+  bounds-low b l h = record { small = omega (arith, b .small); each = λ j k. go j k (ℕ-discrete j i) }
+    where
+      go : (j : ℕ) → j < i + 1 → Dec (j ≡ i) → e * getD sa j 0 ≤ getD sc j 0
+      go j k (yes q) = rw q h
+      go j k (no f) = le-trans (mul-le-mul l (le-refl (getD sa j 0))) (b .each j (omega arith))
+
+  pub bounds-high : Bounds true d i sa sc → d ≤ e → e ≤ 6 → getD sc i 0 ≤ e * getD sa i 0 → Bounds true e (i + 1) sa sc
+  bounds-high b l m h = record { small = m; each = λ j k. go j k (ℕ-discrete j i) }
+    where
+      go : (j : ℕ) → j < i + 1 → Dec (j ≡ i) → getD sc j 0 ≤ e * getD sa j 0
+      go j k (yes q) = rw q h
+      go j k (no f) = le-trans (b .each j (omega arith)) (mul-le-mul l (le-refl (getD sa j 0)))
+
+-- once every step is passed
+pub bounds-at : {t : Bool} {d i k : ℕ} {sa sc : List ℕ} → Bounds t d i sa sc → i ≡ k → Bounds t d k sa sc
+bounds-at b e = rw e at b
+
+-- ---- heights
+
+pub heights-none : (t : Bool) (d : ℕ) (sa sc : List ℕ) → Heights t d sa sc (replicate 8 0) 0
+heights-none t d sa sc = record {
+  eight = refl;
+  each = λ j l. absurd (not-suc-le-zero l);
+  flat = λ j l. eight (λ i. _≡_ {A = ℕ} (getD (replicate 8 0) i 0) 0) refl refl refl refl refl refl refl refl j;
+}
+
+module _ (t : Bool) (d : ℕ) (sa sc up : List ℕ) (i y : ℕ) (w : Heights t d sa sc up i) (l : i < 8) (e : Height t (getD sc i 0) (d * getD sa i 0) y) where
+  pub heights-more : Heights t d sa sc (set up i y) (i + 1)
+  heights-more = record {
+    eight = length-set up i y ∙ w .eight;
+    each = λ j h. at j h (ℕ-discrete j i);
+    flat = λ j h k. getD-set-other up i j y 0 (λ q. omega arith) ∙ w .flat j (omega arith) k;
+  }
+    where
+      at : (j : ℕ) → j < i + 1 → Dec (j ≡ i) → Height t (getD sc j 0) (d * getD sa j 0) (getD (set up i y) j 0)
+      at j h (yes q) = rw (q, getD-set-same up i y 0 (omega (arith, w .eight))) e
+      at j h (no f) = rw (getD-set-other up i j y 0 f) (w .each j (omega arith))
+
+pub heights-at : {t : Bool} {d i k : ℕ} {sa sc up : List ℕ} → Heights t d sa sc up i → i ≡ k → Heights t d sa sc up k
+heights-at w e = rw e at w
+
+-- ---- a shape slid down or mirrored
+
+module _ (s : Shape) (d f ey : ℕ) (up : List ℕ) where
+  abbrev seen : Shape
+  seen = record { state = s .state; k = s .k; f = f; top = s .top; ex = s .ex; ey = ey; sa = s .sa; sc = up }
+
+  -- slid heights are no more than before, 3a + 3 at most; a mirrored one is 6a - c at most, and c is 3a - 3 at least
+  there : (t : Bool) → View t d s → Heights t d (s .sa) (s .sc) up (s .k) → (i : ℕ) → i < s .k → getD up i 0 ≤ s .top
+  there false v u i l = omega (arith, u .each i l, v .gentle .lifted .near i l, v .gentle .lifted .most i l, v .gentle .top-is)
+  there true v u i l =
+      omega (
+        arith,
+        u .each i l,
+        mul-le-mul (v .bounds .small) (le-refl (getD (s .sa) i 0)),
+        v .gentle .lifted .near i l,
+        v .gentle .lifted .least i l,
+        v .gentle .top-is,
+      )
+
+  low : (t : Bool) → View t d s → Heights t d (s .sa) (s .sc) up (s .k) → (i : ℕ) → i < 8 → Dec (i < s .k) → getD up i 0 ≤ s .top
+  low t v u i l (yes h) = there t v u i h
+  low t v u i l (no h) = omega (arith, u .flat i (omega arith) l)
+
+  -- 34 columns of 109 cells at most
+  form : (t : Bool) → View t d s → f ≤ 22 → Height t (s .ey) (d * s .ex) ey → Heights t d (s .sa) (s .sc) up (s .k) → FormOf seen
+  form t v e h u =
+      let w = v .gentle in
+      let l : ey ≤ 96 = v .near ey h in
+      let top : s .top ≡ 12 = w .top-is in
+      let wide : s .ex ≤ 32 = w .wide in
+      record {
+        eight = w .eight;
+        eight-too = u .eight;
+        some = w .some;
+        most = w .lifted .few;
+        ahead = w .lifted .ahead;
+        near = w .lifted .near;
+        away = w .away;
+        flat = u .flat;
+        low = λ i k. low t v u i k (decLt i (s .k));
+        top-le = omega arith;
+        f-le = e;
+        ex-le = omega arith;
+        ey-le = l;
+        cells = product (s .ex + 2) (s .top + ey + 1) 34 109 3712 (omega arith) (omega arith) (omega arith);
+      }
+
+  shows : (t : Bool) → Turned t (s .f) d f → Height t (s .ey) (d * s .ex) ey → Heights t d (s .sa) (s .sc) up (s .k) → Shows (stepsAt s) (endAt s) seen
+  shows false w h u = slid d (record { many = refl; right = λ i l. refl; up = u .each; wall = w }) (refl, h)
+  shows true w h u = mirrored d (record { many = refl; right = λ i l. refl; up = u .each; wall = w }) (refl, h)
+
+  pub view-lowered : (t : Bool) → View t d s → (f ≤ 22) × Turned t (s .f) d f → Height t (s .ey) (d * s .ex) ey → Heights t d (s .sa) (s .sc) up (s .k) → Lowered s seen
+  view-lowered t v w h u = reached (v .gentle .state-is) (form t v (w .0) h u) (shows t (w .1) h u)
+
+-- ---- two grids with the same steps
+
+module _ (G K : Steps) (w : Slid 0 G K) where
+  times : (d i : ℕ) → i < K .k → d * K .a i ≡ d * G .a i
+  times d i l = ap (λ (x : ℕ). d * x) (w .right i l)
+
+  same : (x y : ℕ) → K .stays x y ≡ G .stays x y
+  same x y = let e : y + 0 * x ≡ y = omega arith in w .wall x y ∙ ap (G .stays x) e
+
+  pub shows-same : (q : Spot) (r : Shape) → Shows K q r → Shows G q r
+  shows-same q r (slid d l a) =
+      slid d
+      (record {
+        many = l .many ∙ w .many;
+        right = λ i h. l .right i h ∙ w .right i (omega (arith, l .many));
+        up = λ i h. omega (arith, l .up i h, w .up i (omega (arith, l .many)), times d i (omega (arith, l .many)));
+        wall = λ x y. l .wall x y ∙ same x (y + d * x);
+      })
+      a
+  shows-same q r (mirrored d l a) =
+      mirrored d
+      (record {
+        many = l .many ∙ w .many;
+        right = λ i h. l .right i h ∙ w .right i (omega (arith, l .many));
+        up = λ i h. omega (arith, l .up i h, w .up i (omega (arith, l .many)), times d i (omega (arith, l .many)));
+        wall = λ x y h. l .wall x y h ∙ same x (d * x - y);
+      })
+      a
+
+  pub beyond-same : (q : Spot) → Beyond K q → Beyond G q
+  beyond-same q (below d l h) =
+      below d (λ i k. let n : i < K .k = omega (arith, w .many) in omega (arith, l i n, w .up i n, times d i n)) h
+  beyond-same q (above d l h) =
+      above d (λ i k. let n : i < K .k = omega (arith, w .many) in omega (arith, l i n, w .up i n, times d i n)) h
+
+pub beyond-barren : (G : Steps) (q : Spot) → Beyond G q → Barren (grid G) (enter (grid G) (way G) q)
+beyond-barren G q (below d l h) = enter-barren G q (below-barren G d l q h)
+beyond-barren G q (above d l h) = enter-barren G q (above-barren G d l q h)

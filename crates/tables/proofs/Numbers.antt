@@ -1,0 +1,242 @@
+-- The number of an edge, read from its end over a filled table. Assumes nothing.
+--
+--   brought                      what a last step stands for, in the reader's words and in the table's
+--   num, num-all, num-none, num-step    the number of the first i letters, to (x, y)
+--   Stand                        (x, y) at a cell lies before the end, and its count fits
+--   reads-at, stand-back         what can be read at a cell that stands before the end, and one step back
+--   read-in, read-is, read-more  the loop of `part_sum`
+--   Walking, walking-start, last-in, stays-fits, step-in, step-byte, stepped, step-as, ends-fit, walking-end    the loop of `read`
+--   not-inside, not-letter, not-right, not-up, not-start    where it finds that the bytes are no edge
+use mathlib.Core.Path.{_≡_, refl, sym, ap, _∙_, subst}
+use mathlib.Core.Bool.{Bool, false}
+use mathlib.Core.List.{List, _∷_}
+use Prim.Native.Nat.{ℕ, _+_, _-_, _*_, _^_, _≤_, _<_}
+use native.Mathlib.Omega.{arith}
+use native.Mathlib.Decide.{decLe}
+use native.Mathlib.Nat.{mul-add, add-zero}
+use lib.Dec.{T}
+use lib.ListN.{length, getD}
+use borrow.Author.Tests.{eq-eqb, ne-eqb}
+use Rattle.howmany.specs.Sum.{sum}
+use Rattle.howmany.proofs.Sums.{sum-cong, sum-mono, sum-below}
+use Rattle.job.specs.Replies.{reply}
+use Rattle.job.specs.Replies.Reply.{value, refusal}
+use Rattle.backward.specs.Reader.{rank, count}
+use Rattle.backward.specs.Grid.{grid}
+use Rattle.backward.proofs.Grids.{back-count}
+use Rattle.tables.specs.Form.{wall, stepsIn, spot, W, via}
+use Rattle.letters.specs.Letters.{placeOf}
+use Rattle.tables.specs.Cells.{capOf, cellAt, place, sourceOf}
+use Rattle.tables.specs.declared.Plan as plans
+use Rattle.tables.specs.Table.{Ends, Cells}
+use Rattle.tables.specs.Plans.{strideFor, walksFor, numberFor, validFor, rankFor}
+use Rattle.tables.specs.Filling.{Solid, Full}
+use Rattle.tables.specs.Edges.{endOf, numberOf, Reads}
+use Rattle.tables.proofs.Laws.{onward, sum-more, via-in, W-step, cell-value}
+use Rattle.tables.proofs.Counts.{pos-of}
+use Rattle.tables.proofs.Columns.{source-left, source-in, rows, grow, brings}
+use Rattle.tables.proofs.Phases.{last-row}
+use Rattle.tables.proofs.Reading.{wordTo, word-all, word-cons, word-none, back-is, end-in, ok, ok-all, ok-end, ok-out, ok-no-letter, ok-left, ok-under, ok-step}
+use Rattle.tables.proofs.Tabled.{table-not, table-number}
+
+-- ---- numbers of words
+
+pub brought : (k f : ℕ) (sa sc : List ℕ) → ((i : ℕ) → i < k → 1 ≤ getD sa i 0) → (x y j : ℕ) → count (grid (stepsIn k f sa sc)) (grid (stepsIn k f sa sc) .back (spot x y) j) ≡ via k f sa sc x y j
+unfolding via
+brought k f sa sc pos x y j = back-count (stepsIn k f sa sc) (onward k f sa sc pos) (spot x y) j
+
+unfoldable pub num : Bool → ℕ → ℕ → List ℕ → List ℕ → List ℕ → ℕ → ℕ → ℕ → ℕ
+num corner k f sa sc e i x y = rank (grid (stepsIn k f sa sc)) (wordTo (placeOf corner) e i) (endOf k f sa sc x y)
+
+module _ (corner : Bool) (k f : ℕ) (sa sc e : List ℕ) where
+  pub num-all : (x y : ℕ) → num corner k f sa sc e (length e) x y ≡ numberOf corner k f sa sc x y e
+  unfolding num numberOf
+  num-all x y = ap (λ (w : List ℕ). rank (grid (stepsIn k f sa sc)) w (endOf k f sa sc x y)) (word-all (placeOf corner) e)
+
+  pub num-none : (i x y : ℕ) → i ≤ 0 → num corner k f sa sc e i x y ≡ 0
+  unfolding num rank
+  num-none i x y h = ap (λ (w : List ℕ). rank (grid (stepsIn k f sa sc)) w (endOf k f sa sc x y)) (word-none (placeOf corner) e i h)
+
+  module _ (pos : (i : ℕ) → i < k → 1 ≤ getD sa i 0) where
+    pub num-step : (i x y l : ℕ) → 0 < i → l ≡ placeOf corner (getD e (i - 1) 0) → T (wall f x y) → getD sa l 0 ≤ x → getD sc l 0 ≤ y
+        → num corner k f sa sc e i x y ≡ sum (via k f sa sc x y) l + num corner k f sa sc e (i - 1) (x - getD sa l 0) (y - getD sc l 0)
+    unfolding num rank
+    num-step i x y l h q n a c =
+        ap (λ (w : List ℕ). rank (grid (stepsIn k f sa sc)) w (endOf k f sa sc x y)) (word-cons (placeOf corner) e i l h q)
+        ∙ ap (rank (grid (stepsIn k f sa sc)) (l ∷ wordTo (placeOf corner) e (i - 1))) (end-in k f sa sc x y n)
+        ∙ omega (
+          arith,
+          sum-cong (λ j. count (grid (stepsIn k f sa sc)) (grid (stepsIn k f sa sc) .back (spot x y) j)) (via k f sa sc x y) l (λ j _. brought k f sa sc pos x y j),
+          ap (rank (grid (stepsIn k f sa sc)) (wordTo (placeOf corner) e (i - 1))) (back-is k f sa sc x y l a c),
+        )
+
+-- ---- a filled table
+
+pub record Stand (p : plans.Plan) (sa sc : List ℕ) (x y cell : ℕ) : Type 0 where
+  pub end : x ≤ p .ex
+  pub ends : Ends (p .hi) (p .ex) (p .ey) x y
+  pub at : cell ≡ place (p .m) (p .ey) x y
+  pub fits : W (p .k) (p .f) sa sc x y < 2 ^ 64
+
+cells-less : {p : plans.Plan} {sa sc val : List ℕ} (s : Solid p sa sc val) (x : ℕ) → x ≤ p .ex → Cells capOf (cellAt val (s .ov)) (p .k) (p .f) sa sc (p .hi) (p .m) (p .ex) (p .ey) x
+cells-less s x l = record { right = λ u y h en. s .flags .right u y (omega arith) en; margin = s .flags .margin; front = s .flags .front }
+
+module _ {p : plans.Plan} {sa sc off val : List ℕ} (fu : Full p sa sc off val) {x y cell : ℕ} (sp : Stand p sa sc x y cell) (px : 1 ≤ x) (ins : T (wall (p .f) x y)) where
+  all-of : W (p .k) (p .f) sa sc x y ≡ sum (via (p .k) (p .f) sa sc x y) (p .k)
+  all-of = W-step (p .k) (p .f) sa sc (pos-of (fu .ready .slopes)) x y px ins
+
+  via-le : (i : ℕ) → i < p .k → via (p .k) (p .f) sa sc x y i ≤ W (p .k) (p .f) sa sc x y
+  via-le i l = omega (arith, all-of, sum-below (via (p .k) (p .f) sa sc x y) i (p .k) l)
+
+  row-in : (x + 1) * strideFor p + strideFor p ≤ length val
+  row-in = omega (arith, fu .ready .room, last-row x (strideFor p), grow (strideFor p) (x + 2) (p .ex + 2) (omega (arith, sp .end)))
+
+  eight : (i : ℕ) → i < p .k → i < 8
+  eight i l = omega (arith, fu .ready .slopes .most)
+
+  pub reads-at : Reads (p .k) (p .f) sa sc off val x y cell
+  reads-at = rw (sp .at) (record {
+    most = fu .ready .slopes .most;
+    back = λ i l ha. omega (arith, fu .ready .offs .is i (eight i l), fu .ready .slopes .deep i (eight i l) (omega (arith, sp .end)), rows (strideFor p) x (getD sa i 0) ha);
+    in-val = λ i l. elim (decLe (getD sa i 0) x) [
+      | yes ha ↦ rw (source-in sa off x (place (p .m) (p .ey) x y) i ha) (omega (arith, row-in, sp .ends .0))
+      | no ha ↦ rw (source-left sa off x (place (p .m) (p .ey) x y) i (omega arith)) (omega (arith, row-in))
+    ];
+    says = λ i l. cell-value _ (getD (fu .solid .ov) (sourceOf sa off x (place (p .m) (p .ey) x y) i) 0) _
+        (rw (add-zero (sourceOf sa off x (place (p .m) (p .ey) x y) i), add-zero y) at (brings (fu .ready .slopes) (fu .ready .offs) (cells-less (fu .solid) x (sp .end)) px (sp .end) y 0 i (eight i l)
+        (omega (arith, sp .ends .0)) (omega (arith, sp .ends .1))))
+        (omega (arith, via-le i l, sp .fits));
+    fits = omega (arith, all-of, sp .fits);
+  })
+
+  pub stand-back : (l a c o : ℕ) → l < p .k → a ≡ getD sa l 0 → c ≡ getD sc l 0 → o ≡ getD off l 0 → getD sa l 0 ≤ x → getD sc l 0 ≤ y → Stand p sa sc (x - a) (y - c) (cell - o)
+  stand-back l a c o h ea ec eo ha hc = rw (ea, ec, eo) (record {
+    end = omega (arith, sp .end);
+    ends = (omega (arith, sp .ends .0), omega (arith, sp .ends .1, fu .ready .slopes .steep l (eight l h) (omega (arith, sp .end)), mul-add (p .hi) (p .ex - x) (getD sa l 0), ap (λ (z : ℕ). p .hi * z) further));
+    at = omega (arith, sp .at, fu .ready .offs .is l (eight l h), rows (strideFor p) x (getD sa l 0) ha);
+    fits = omega (arith, via-le l h, sp .fits, via-in (p .k) (p .f) sa sc x y l ha hc);
+  })
+    where
+      further : p .ex - (x - getD sa l 0) ≡ p .ex - x + getD sa l 0
+      further = omega (arith, sp .end)
+
+module _ {k f : ℕ} {sa sc off val : List ℕ} {x y p : ℕ} (rd : Reads k f sa sc off val x y p) (i : ℕ) (h : i < k) {s : ℕ} (es : s ≡ sourceOf sa off x p i) where
+  pub read-in : s < length val
+  read-in = omega (arith, rd .in-val i h)
+
+  pub read-is : getD val s 0 ≡ via k f sa sc x y i
+  read-is = ap (λ (j : ℕ). getD val j 0) es ∙ rd .says i h
+
+  pub read-more : {acc : ℕ} → acc ≡ sum (via k f sa sc x y) i → (acc + getD val s 0 ≡ sum (via k f sa sc x y) (i + 1)) × (acc + getD val s 0 < 2 ^ 64)
+  read-more {acc} ea = (
+    omega (arith, sum-more (via k f sa sc x y) i, read-is),
+    omega (arith, sum-more (via k f sa sc x y) i, read-is, sum-mono (via k f sa sc x y) (i + 1) k (omega arith), rd .fits),
+  )
+
+-- ---- the loop of `read`: the letters from i on led back from the end to (x, y). What they stand for and all walks to (x, y) are no more
+-- than the walks to the end, so that the sum fits, be the bytes an edge or not
+
+pub record Walking (corner : Bool) (p : plans.Plan) (sa sc off val e : List ℕ) (acc x y cell i : ℕ) : Type 0 where
+  pub full : Full p sa sc off val
+  pub i-le : i ≤ length e
+  pub stand : Stand p sa sc x y cell
+  pub under : acc + W (p .k) (p .f) sa sc x y ≤ walksFor p sa sc
+  pub same : ok corner (p .k) (p .f) sa sc e i x y ≡ validFor corner p sa sc e
+  pub total : acc + num corner (p .k) (p .f) sa sc e i x y ≡ rankFor corner p sa sc e
+
+pub record Stepped (corner : Bool) (p : plans.Plan) (sa sc off val e : List ℕ) (acc x y cell i l : ℕ) : Type 0 where
+  pub fewer : i - 1 < i
+  pub below : l ≤ p .k
+  pub reads : Reads (p .k) (p .f) sa sc off val x y cell
+  pub far : getD off l 0 ≤ cell
+  pub fits : {v : ℕ} → v ≡ sum (via (p .k) (p .f) sa sc x y) l → acc + v < 2 ^ 64
+  pub next : {v : ℕ} → v ≡ sum (via (p .k) (p .f) sa sc x y) l → Walking corner p sa sc off val e (acc + v) (x - getD sa l 0) (y - getD sc l 0) (cell - getD off l 0) (i - 1)
+
+-- the same by numbers that the code has at hand
+pub step-as : {corner : Bool} {p : plans.Plan} {sa sc off val e : List ℕ} {acc x y cell i l : ℕ} → Stepped corner p sa sc off val e acc x y cell i l → {a u o v t : ℕ}
+    → a ≡ getD sa l 0 → u ≡ getD sc l 0 → o ≡ getD off l 0 → v ≡ sum (via (p .k) (p .f) sa sc x y) l → t ≡ acc + v → Walking corner p sa sc off val e t (x - a) (y - u) (cell - o) (i - 1)
+step-as s ea eu eo ev et = rw (et, ea, eu, eo) (s .next ev)
+
+module _ {corner : Bool} {p : plans.Plan} {sa sc off val e : List ℕ} where
+  pub walking-start : Full p sa sc off val → {cell : ℕ} → cell ≡ place (p .m) (p .ey) (p .ex) (p .ey) → Walking corner p sa sc off val e 0 (p .ex) (p .ey) cell (length e)
+  walking-start fu ep = record {
+    full = fu;
+    i-le = omega arith;
+    stand = record { end = omega arith; ends = (omega arith, omega arith); at = ep; fits = fu .fits };
+    under = omega arith;
+    same = ok-all corner (p .k) (p .f) sa sc e (p .ex) (p .ey);
+    total = omega (arith, num-all corner (p .k) (p .f) sa sc e (p .ex) (p .ey));
+  }
+
+  module _ {acc x y cell i : ℕ} (w : Walking corner p sa sc off val e acc x y cell i) where
+    pub last-in : 0 < i → i - 1 < length e
+    last-in h = omega (arith, w .i-le)
+
+    pub stays-fits : (p .f ≤ 100) × (x ≤ 97)
+    stays-fits = (w .full .ready .sizes .f-le, omega (arith, w .stand .end, w .full .ready .sizes .ex-le))
+
+    pub step-in : {l : ℕ} → l < p .k → l < 8
+    step-in b = omega (arith, w .full .ready .slopes .most)
+
+    pub step-byte : {l : ℕ} → l < p .k → l * 8 < 2 ^ 64
+    step-byte b = omega (arith, w .full .ready .slopes .most)
+
+    no-edge : ok corner (p .k) (p .f) sa sc e i x y ≡ false → refusal 5 ≡ reply (numberFor corner p sa sc e)
+    no-edge o = table-not corner p sa sc e (w .full .fits) (sym (w .same) ∙ o)
+
+    module _ (h : 0 < i) {l : ℕ} (q : l ≡ placeOf corner (getD e (i - 1) 0)) where
+      pos : (j : ℕ) → j < p .k → 1 ≤ getD sa j 0
+      pos = pos-of (w .full .ready .slopes)
+
+      pub not-inside : wall (p .f) x y ≡ false → refusal 5 ≡ reply (numberFor corner p sa sc e)
+      not-inside o = no-edge (ok-out corner (p .k) (p .f) sa sc e pos i x y l h q (λ t. subst T o t))
+
+      module _ (n : T (wall (p .f) x y)) where
+        pub not-letter : p .k ≤ l → refusal 5 ≡ reply (numberFor corner p sa sc e)
+        not-letter o = no-edge (ok-no-letter corner (p .k) (p .f) sa sc e pos i x y l h q n o)
+
+        pub not-right : x < getD sa l 0 → refusal 5 ≡ reply (numberFor corner p sa sc e)
+        not-right o = no-edge (ok-left corner (p .k) (p .f) sa sc e pos i x y l h q n o)
+
+        pub not-up : getD sa l 0 ≤ x → y < getD sc l 0 → refusal 5 ≡ reply (numberFor corner p sa sc e)
+        not-up a o = no-edge (ok-under corner (p .k) (p .f) sa sc e pos i x y l h q n a o)
+
+        pub stepped : l < p .k → getD sa l 0 ≤ x → getD sc l 0 ≤ y → Stepped corner p sa sc off val e acc x y cell i l
+        stepped b a c = record {
+          fewer = omega arith;
+          below = omega arith;
+          reads = rd;
+          far = rd .back l b a;
+          fits = λ ev. omega (arith, part, w .under, w .full .fits);
+          next = λ ev. record {
+            full = w .full;
+            i-le = omega (arith, w .i-le);
+            stand = stand-back (w .full) (w .stand) px n l _ _ _ b refl refl refl a c;
+            under = omega (arith, part, via-in (p .k) (p .f) sa sc x y l a c, w .under);
+            same = sym (ok-step corner (p .k) (p .f) sa sc e pos i x y l h q n b a c) ∙ w .same;
+            total = omega (arith, w .total, num-step corner (p .k) (p .f) sa sc e pos i x y l h q n a c);
+          };
+        }
+          where
+            px : 1 ≤ x
+            px = omega (arith, pos l b)
+
+            rd : Reads (p .k) (p .f) sa sc off val x y cell
+            rd = reads-at (w .full) (w .stand) px n
+
+            -- the steps before l, and l itself, bring no more than all
+            part : sum (via (p .k) (p .f) sa sc x y) l + via (p .k) (p .f) sa sc x y l ≤ W (p .k) (p .f) sa sc x y
+            part = omega (arith, all-of (w .full) (w .stand) px n, sum-below (via (p .k) (p .f) sa sc x y) l (p .k) b)
+
+    pub ends-fit : x + y < 2 ^ 64
+    ends-fit = omega (arith, w .stand .end, w .stand .ends .0, w .full .ready .sizes .ex-le, w .full .ready .sizes .ey-le)
+
+    module _ (h : i ≤ 0) where
+      pub not-start : 0 < x + y → refusal 5 ≡ reply (numberFor corner p sa sc e)
+      not-start o = no-edge (sym (ok-end corner (p .k) (p .f) sa sc e i x y h) ∙ ne-eqb (x + y) 0 (λ q. omega arith))
+
+      pub walking-end : x + y ≤ 0 → value acc ≡ reply (numberFor corner p sa sc e)
+      walking-end o =
+          table-number corner p sa sc e acc (w .full .fits)
+          (sym (w .same) ∙ sym (ok-end corner (p .k) (p .f) sa sc e i x y h) ∙ eq-eqb (x + y) 0 (omega arith))
+          (omega (arith, w .total, num-none corner (p .k) (p .f) sa sc e i x y h))

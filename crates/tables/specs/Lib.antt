@@ -1,0 +1,11 @@
+pub mod Form
+pub mod Cells
+pub mod Table
+pub mod Edges
+pub mod Heights
+pub mod Shapes
+pub mod Calls
+pub mod Numbering
+pub mod Spelling
+pub mod Plans
+pub mod Filling

@@ -1,0 +1,102 @@
+-- What is said of a table by the plan of its shape.
+--
+--   strideFor p, cellsFor p           how many cells a column has, and all of the table
+--   SizesFor p                        bounds of the plan's numbers
+--   FormFor p sa sc                   the steps sa, sc with the plan's end are a form
+--   Planned sa sc p                   the steps sa, sc have the form, the steepest and the deepest step that the plan p says, and are few if it says so
+--   PlanOf s p                        the plan p is that of the shape s
+--   PreparedFor, TableFor, FlaggedFor, SmallFor    Prepared, Table, Flagged and Small by a plan
+--   SpansFor p starts stops           where the heights that matter of the plan's columns begin, and end
+--   walksFor p sa sc                  how many walks lead to the end
+--   countFor p sa sc                  the count by a plan
+--   numberFor corner p sa sc e        the number of the edge e, written N E D where corner is true; validFor, rankFor: whether it is one, and its number if so
+--   edgeFor corner p sa sc r          the edge of the number r; ListsFor, BuildsFor: those of the numbers ns written, and those or refusal 4 or 6
+--   RoomFor ns steps ends             there is room for the edges of the numbers ns
+use mathlib.Core.Path.{_≡_}
+use mathlib.Core.Bool.{Bool}
+use mathlib.Core.List.{List}
+use Prim.Native.Nat.{ℕ, _+_, _*_}
+use lib.ListN.{length}
+use Rattle.rules.specs.Refusals.{Answer}
+use Rattle.rules.specs.Refusals.Answer.{accepted}
+use Rattle.job.specs.declared.Built.{Built}
+use Rattle.job.specs.declared.Built.the-variants.{Length}
+use Rattle.lines.specs.Lines.{lined, LinedAs, Room}
+use Rattle.tables.specs.declared.Answer as counts
+use Rattle.tables.specs.declared.Plan.{Plan}
+use Rattle.tables.specs.declared.Shape.{Shape}
+use Rattle.tables.specs.Form.{Form, W}
+use Rattle.tables.specs.Cells.{capOf, strideOf}
+use Rattle.tables.specs.Table.{Steepest, Deepest, Few, Sizes, Prepared, Spans, Table, Flagged, Small}
+use Rattle.tables.specs.Edges.{isEdge, numberOf, edgeOf}
+use Rattle.tables.specs.Numbering.{tableNumber}
+use Rattle.tables.specs.Spelling.{edgesBy, edgesFor}
+
+abbrev pub strideFor : Plan → ℕ
+strideFor p = strideOf (p .m) (p .ey)
+
+abbrev pub cellsFor : Plan → ℕ
+cellsFor p = (p .ex + 2) * strideFor p
+
+abbrev pub SizesFor : Plan → Type 0
+SizesFor p = Sizes (p .f) (p .hi) (p .m) (p .ex) (p .ey)
+
+abbrev pub FormFor : Plan → List ℕ → List ℕ → Type 0
+FormFor p sa sc = Form (p .k) (p .f) sa sc (p .top) (p .ex) (p .ey)
+
+pub record Planned (sa sc : List ℕ) (p : Plan) : Type 0 where
+  pub form : FormFor p sa sc
+  pub steep : Steepest sa sc (p .ex) (p .hi) 8
+  pub deep : Deepest sa sc (p .top) (p .ex) (p .m) 8
+  pub fewer : Few (p .few) sa (p .ex)
+
+pub record PlanOf (s : Shape) (p : Plan) : Type 0 where
+  pub planned : Planned (s .sa) (s .sc) p
+  pub k-is : p .k ≡ s .k
+  pub f-is : p .f ≡ s .f
+  pub ex-is : p .ex ≡ s .ex
+  pub ey-is : p .ey ≡ s .ey
+
+abbrev pub PreparedFor : Plan → List ℕ → List ℕ → List ℕ → ℕ → Type 0
+PreparedFor p sa sc off size = Prepared (p .few) (p .k) (p .f) sa sc off (p .hi) (p .m) (p .ex) (p .ey) size
+
+abbrev pub TableFor : Plan → List ℕ → List ℕ → List ℕ → ℕ → Type 0
+TableFor p sa sc val x = Table (p .k) (p .f) sa sc (p .hi) (p .m) (p .ex) (p .ey) val x
+
+abbrev pub SmallFor : Plan → List ℕ → List ℕ → ℕ → Type 0
+SmallFor p sa sc x = Small (p .k) (p .f) sa sc (p .hi) (p .ex) (p .ey) x
+
+abbrev pub FlaggedFor : Plan → List ℕ → List ℕ → List ℕ → List ℕ → ℕ → Type 0
+FlaggedFor p sa sc val ov x = Flagged (p .k) (p .f) sa sc (p .hi) (p .m) (p .ex) (p .ey) val ov x
+
+abbrev pub SpansFor : Plan → List ℕ → List ℕ → Type 0
+SpansFor p starts stops = Spans (p .f) (p .hi) (p .ex) (p .ey) starts stops (p .ex + 1)
+
+abbrev pub walksFor : Plan → List ℕ → List ℕ → ℕ
+walksFor p sa sc = W (p .k) (p .f) sa sc (p .ex) (p .ey)
+
+abbrev pub countFor : Plan → List ℕ → List ℕ → counts.Answer
+countFor p sa sc = capOf (walksFor p sa sc)
+
+abbrev pub numberFor : Bool → Plan → List ℕ → List ℕ → List ℕ → Answer ℕ
+numberFor corner p sa sc e = tableNumber corner (p .k) (p .f) sa sc (p .ex) (p .ey) e
+
+abbrev pub validFor : Bool → Plan → List ℕ → List ℕ → List ℕ → Bool
+validFor corner p sa sc e = isEdge corner (p .k) (p .f) sa sc (p .ex) (p .ey) e
+
+abbrev pub rankFor : Bool → Plan → List ℕ → List ℕ → List ℕ → ℕ
+rankFor corner p sa sc e = numberOf corner (p .k) (p .f) sa sc (p .ex) (p .ey) e
+
+abbrev pub edgeFor : Bool → Plan → List ℕ → List ℕ → ℕ → List ℕ
+edgeFor corner p sa sc r = edgeOf corner (p .k) (p .f) sa sc (p .ex) (p .ey) r
+
+abbrev pub ListsFor : Bool → Plan → List ℕ → List ℕ → List ℕ → List ℕ → List ℕ → List ℕ → List ℕ → ℕ → Type 0
+ListsFor corner p sa sc ns steps ends after-steps after-ends at =
+    LinedAs (lined (accepted (edgesBy corner (p .k) (p .f) sa sc (p .ex) (p .ey) ns)) steps ends) (Length at) after-steps after-ends
+
+abbrev pub BuildsFor : Bool → Plan → List ℕ → List ℕ → List ℕ → List ℕ → List ℕ → List ℕ → List ℕ → Built → Type 0
+BuildsFor corner p sa sc ns steps ends after-steps after-ends r =
+    LinedAs (lined (edgesFor corner (p .k) (p .f) sa sc (p .ex) (p .ey) ns) steps ends) r after-steps after-ends
+
+abbrev pub RoomFor : List ℕ → List ℕ → List ℕ → Type 0
+RoomFor ns steps ends = Room (length ns) (length steps) (length ends)
