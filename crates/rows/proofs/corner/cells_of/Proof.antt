@@ -1,4 +1,4 @@
--- `grid::corner::cells_of` meets its contract: neither factor is large. Assumes nothing.
+-- `rows::corner::cells_of` meets its contract: neither factor is large. Assumes nothing.
 use native.Mathlib.Omega.{arith}
 use Rattle.rows.proofs.Cornering.{cells-at}
 use borrow.Author.Needs.{needs}

@@ -1,4 +1,4 @@
--- `grid::corner::east_of` meets its contract: E goes up by the rest of 1. Assumes nothing.
+-- `rows::corner::east_of` meets its contract: E goes up by the rest of 1. Assumes nothing.
 use native.Mathlib.Omega.{arith}
 use Rattle.rows.proofs.Cornering.{east-up}
 use borrow.Author.Needs.{needs}

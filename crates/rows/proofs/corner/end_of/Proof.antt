@@ -1,4 +1,4 @@
--- `grid::corner::end_of` meets its contract: the table has room for the end. Assumes nothing.
+-- `rows::corner::end_of` meets its contract: the table has room for the end. Assumes nothing.
 use mathlib.Core.Path.{refl}
 use native.Mathlib.Omega.{arith}
 use Rattle.rows.proofs.Cornering.{end-at}

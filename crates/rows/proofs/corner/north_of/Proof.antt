@@ -1,4 +1,4 @@
--- `grid::corner::north_of` meets its contract: N goes up by 1 at most. Assumes nothing.
+-- `rows::corner::north_of` meets its contract: N goes up by 1 at most. Assumes nothing.
 use native.Mathlib.Omega.{arith}
 use Rattle.rows.proofs.Cornering.{east-up}
 use borrow.Author.Needs.{needs}

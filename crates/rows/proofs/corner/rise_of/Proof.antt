@@ -1,4 +1,4 @@
--- `grid::corner::rise_of` meets its contract: by the test that led there. Assumes nothing.
+-- `rows::corner::rise_of` meets its contract: by the test that led there. Assumes nothing.
 use mathlib.Core.Path.{refl}
 use borrow.Author.Tests.{lt-ltb, le-ltb}
 use Rattle.rows.proofs.corner.rise_of.Statement.{statement}

@@ -1,4 +1,4 @@
--- `grid::corner_numbering::is_across` meets its contract: by the tests that led there. Assumes nothing.
+-- `rows::numbering::is_across` meets its contract: by the tests that led there. Assumes nothing.
 use mathlib.Core.Path.{refl}
 use borrow.Author.Tests.{eq-eqb, ne-eqb, le-leb, lt-leb}
 use Rattle.rows.proofs.numbering.is_across.Statement.{statement}

@@ -1,4 +1,4 @@
--- `grid::corner_numbering::number_in` meets its contract: by the table's answer and the edge read. Assumes nothing.
+-- `rows::numbering::number_in` meets its contract: by the table's answer and the edge read. Assumes nothing.
 use mathlib.Core.Bool.{true}
 use Rattle.rows.specs.Corners.{cornerPlan}
 use Rattle.tables.proofs.Phases.{filled-over, filled-full}

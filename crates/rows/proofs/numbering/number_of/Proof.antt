@@ -1,4 +1,4 @@
--- `grid::corner_numbering::number` meets its contract: the count is over where both n and m are above 33, and else the smallest size that has
+-- `rows::numbering::number_of` meets its contract: the count is over where both n and m are above 33, and else the smallest size that has
 -- room is prepared. Assumes nothing.
 use Rattle.tables.proofs.Counted.{number-over}
 use Rattle.rows.proofs.Corners.{corner-over, corner-ready, corner-last, corner-number}

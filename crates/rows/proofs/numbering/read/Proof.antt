@@ -1,4 +1,4 @@
--- `grid::corner_numbering::read` meets its contract: at each step what is read so far and what is left make up the edge's validity and its
+-- `rows::numbering::read` meets its contract: at each step what is read so far and what is left make up the edge's validity and its
 -- number. Assumes nothing.
 use mathlib.Core.Path.{refl, sym, _∙_}
 use mathlib.Core.Bool.{true}

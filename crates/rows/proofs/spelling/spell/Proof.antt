@@ -1,4 +1,4 @@
--- `grid::corner_spelling::spell` meets its contract: at each step what is written so far and what is left make up the edge. The loop knows
+-- `rows::spelling::spell` meets its contract: at each step what is written so far and what is left make up the edge. The loop knows
 -- no corner, only numbers, so what it keeps holds of every corner that gives these. Assumes nothing.
 use mathlib.Core.Path.{_≡_, refl}
 use native.Mathlib.Omega.{arith}

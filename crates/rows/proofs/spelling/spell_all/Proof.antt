@@ -1,4 +1,4 @@
--- `grid::corner_spelling::spell_all` meets its contract: each edge is spelt where the one before it ends. Assumes nothing.
+-- `rows::spelling::spell_all` meets its contract: each edge is spelt where the one before it ends. Assumes nothing.
 use native.Mathlib.Omega.{arith}
 use Prim.Native.Nat.{_-_}
 use lib.ListN.{length}

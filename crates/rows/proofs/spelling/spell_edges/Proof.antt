@@ -1,4 +1,4 @@
--- `grid::corner_spelling::spell_edges` meets its contract: the count is over where both n and m are above 33, and else the smallest size that
+-- `rows::spelling::spell_edges` meets its contract: the count is over where both n and m are above 33, and else the smallest size that
 -- has room is prepared. Assumes nothing.
 use Rattle.tables.proofs.Builds.{build-over}
 use Rattle.rows.proofs.Corners.{corner-over, corner-ready, corner-last, corner-builds}

@@ -1,4 +1,4 @@
--- `grid::corner_spelling::spell_front` meets its contract: the edge is spelt at the end of a buffer, and copied. Assumes nothing.
+-- `rows::spelling::spell_front` meets its contract: the edge is spelt at the end of a buffer, and copied. Assumes nothing.
 use mathlib.Core.Path.{refl}
 use Rattle.tables.proofs.Builds.{front-of}
 use borrow.Author.Needs.{needs}

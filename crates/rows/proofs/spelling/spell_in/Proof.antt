@@ -1,4 +1,4 @@
--- `grid::corner_spelling::spell_in` meets its contract: by the table's answer and the numbers. Assumes nothing.
+-- `rows::spelling::spell_in` meets its contract: by the table's answer and the numbers. Assumes nothing.
 use mathlib.Core.Path.{_∙_}
 use borrow.Author.Tests.{not-true, not-false}
 use mathlib.Core.Bool.{true}

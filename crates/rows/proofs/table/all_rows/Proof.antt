@@ -1,4 +1,4 @@
--- `grid::rows::all_rows` meets its contract: row by row. Assumes nothing.
+-- `rows::table::all_rows` meets its contract: row by row. Assumes nothing.
 use Prim.Native.Nat.{_+_, _-_, _≤_}
 use mathlib.Core.Path.{_≡_, refl}
 use native.Mathlib.Omega.{arith}

@@ -1,4 +1,4 @@
--- `grid::rows::fill_rows` meets its contract: the end's cell of a table whose rows all fit has the count. Assumes nothing.
+-- `rows::table::fill_rows` meets its contract: the end's cell of a table whose rows all fit has the count. Assumes nothing.
 use mathlib.Core.Path.{refl}
 use native.Mathlib.Omega.{arith}
 use Rattle.tables.proofs.Phases.{end-room, end-cells, got-filled}

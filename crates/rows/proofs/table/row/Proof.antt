@@ -1,4 +1,4 @@
--- `grid::rows::row` meets its contract: along the row the cell in hand is right, or a sum that wraps shows that the end's count doesn't fit.
+-- `rows::table::row` meets its contract: along the row the cell in hand is right, or a sum that wraps shows that the end's count doesn't fit.
 -- Assumes nothing.
 use Prim.Native.Nat.{_-_, _^_, _<_}
 use mathlib.Core.Path.{_≡_, refl, sym, subst}
