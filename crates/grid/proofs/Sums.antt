@@ -1,12 +1,13 @@
 -- The loops that sum a run of cells. Assumes nothing.
 --
 --   column-none, column-more, column-at    a run summed as far as i: not at all, one cell more, all of it
---   Sources4, Sources8                     where the runs start that it is summed from
---   sum4, sum8                             the sum of a turn is the cell's, and fits
+--   Source, source-at                      where a run starts that it is summed from
+--   Sources2, Sources4, Sources8           where all of them start
+--   sum2, sum4, sum8                       the sum of a turn is the cell's, and fits
 --   Parts4, parts4, Parts8, parts8         the sums on the way to it fit too
 --   at-fits, at-byte, at-in                the cells of a run can be read, to-fits, to-byte, to-in: and written
---   below-4, below-8                       the numbers of the runs
---   start-in, no-cell, more-le, more-fits, fewer-left, all-of    a run's start, and how many of its cells are done
+--   below-2, below-4, below-8              the numbers of the runs
+--   no-cell, more-le, more-fits, fewer-left, all-of    how many of a run's cells are done
 --   high-le, above-fits                    the bits above 2^61, and their sum
 use mathlib.Core.Path.{_≡_, refl, sym, _∙_}
 use mathlib.Core.List.{List}
@@ -19,9 +20,16 @@ use borrow.Author.Count.{below-more}
 use Rattle.howmany.specs.Sum.{sum}
 use Rattle.tables.specs.Cells.{sourceOf, colOf, Run, Column}
 
-term : (k : ℕ) (val₀ val sa off : List ℕ) (x d n i : ℕ) → Column k val₀ val sa off x d i → i < n → (j s : ℕ) → s ≡ sourceOf sa off x d j → s + n ≤ d
-    → getD val₀ (sourceOf sa off x d j + i) 0 ≡ getD val (s + i) 0
-term k val₀ val sa off x d n i co l j s e h = rw (← e) (sym (co .before (s + i) (omega arith)))
+-- run j of those that a run of n cells is summed from
+pub record Source (sa off : List ℕ) (x d n j s : ℕ) : Type 0 where
+  pub is : s ≡ sourceOf sa off x d j
+  pub end : s + n ≤ d
+
+pub source-at : {k : ℕ} {val sa off : List ℕ} {x d n s : ℕ} → Run k val sa off x d n → (j : ℕ) → j < k → s ≡ sourceOf sa off x d j → Source sa off x d n j s
+source-at ru j l e = record { is = e; end = omega (arith, ru .apart j l) }
+
+term : {k : ℕ} {val₀ val sa off : List ℕ} {x d n i j s : ℕ} → Column k val₀ val sa off x d i → i < n → Source sa off x d n j s → getD val₀ (sourceOf sa off x d j + i) 0 ≡ getD val (s + i) 0
+term {i = i} {s = s} co l so = let h = so .end in rw (← so .is) (sym (co .before (s + i) (omega arith)))
 
 pub column-none : (k : ℕ) (val sa off : List ℕ) (x d : ℕ) → Column k val val sa off x d 0
 column-none k val sa off x d = record { here = λ t l. absurd (not-suc-le-zero l); before = λ j l. refl; after = λ j l. refl }
@@ -38,70 +46,37 @@ column-more k val₀ val sa off x d i v p co ep l e = record {
 pub column-at : (k : ℕ) (val₀ val sa off : List ℕ) (x d i n : ℕ) → Column k val₀ val sa off x d i → i ≡ n → Column k val₀ val sa off x d n
 column-at k val₀ val sa off x d i n co e = rw e at co
 
--- where the 4 runs start
-pub record Sources4 (sa off : List ℕ) (x d n s0 s1 s2 s3 : ℕ) : Type 0 where
-  pub is0 : s0 ≡ sourceOf sa off x d 0
-  pub end0 : s0 + n ≤ d
-  pub is1 : s1 ≡ sourceOf sa off x d 1
-  pub end1 : s1 + n ≤ d
-  pub is2 : s2 ≡ sourceOf sa off x d 2
-  pub end2 : s2 + n ≤ d
-  pub is3 : s3 ≡ sourceOf sa off x d 3
-  pub end3 : s3 + n ≤ d
+abbrev pub Sources2 : List ℕ → List ℕ → ℕ → ℕ → ℕ → ℕ → ℕ → Type 0
+Sources2 sa off x d n s0 s1 = Source sa off x d n 0 s0 × Source sa off x d n 1 s1
+
+pub sum2 : {val₀ val sa off : List ℕ} {x d n i s0 s1 : ℕ} → Column 2 val₀ val sa off x d i → i < n → Sources2 sa off x d n s0 s1 → Run 2 val₀ sa off x d n
+    → (getD val (s0 + i) 0 + getD val (s1 + i) 0 ≡ colOf 2 val₀ sa off x d i)
+    × (getD val (s0 + i) 0 + getD val (s1 + i) 0 < 2 ^ 64)
+unfolding sum
+sum2 {val₀} {val} {sa} {off} {x} {d} {n} {i} {s0} {s1} co l so ru =
+    let e : getD val (s0 + i) 0 + getD val (s1 + i) 0 ≡ colOf 2 val₀ sa off x d i = omega (arith, term co l (so .0), term co l (so .1)) in
+    (e, omega (arith, ru .fits i l))
+
+abbrev pub Sources4 : List ℕ → List ℕ → ℕ → ℕ → ℕ → ℕ → ℕ → ℕ → ℕ → Type 0
+Sources4 sa off x d n s0 s1 s2 s3 = Source sa off x d n 0 s0 × Source sa off x d n 1 s1 × Source sa off x d n 2 s2 × Source sa off x d n 3 s3
 
 pub sum4 : {val₀ val sa off : List ℕ} {x d n i s0 s1 s2 s3 : ℕ} → Column 4 val₀ val sa off x d i → i < n → Sources4 sa off x d n s0 s1 s2 s3 → Run 4 val₀ sa off x d n
     → (getD val (s0 + i) 0 + getD val (s1 + i) 0 + getD val (s2 + i) 0 + getD val (s3 + i) 0 ≡ colOf 4 val₀ sa off x d i)
     × (getD val (s0 + i) 0 + getD val (s1 + i) 0 + getD val (s2 + i) 0 + getD val (s3 + i) 0 < 2 ^ 64)
 unfolding sum
 sum4 {val₀} {val} {sa} {off} {x} {d} {n} {i} {s0} {s1} {s2} {s3} co l so ru =
-    let at : (j s : ℕ) → s ≡ sourceOf sa off x d j → s + n ≤ d → getD val₀ (sourceOf sa off x d j + i) 0 ≡ getD val (s + i) 0 = term 4 val₀ val sa off x d n i co l in
-    let e : getD val (s0 + i) 0 + getD val (s1 + i) 0 + getD val (s2 + i) 0 + getD val (s3 + i) 0 ≡ colOf 4 val₀ sa off x d i =
-    omega (
-      arith,
-      at 0 s0 (so .is0) (so .end0),
-      at 1 s1 (so .is1) (so .end1),
-      at 2 s2 (so .is2) (so .end2),
-      at 3 s3 (so .is3) (so .end3),
-    ) in
+    let e : getD val (s0 + i) 0 + getD val (s1 + i) 0 + getD val (s2 + i) 0 + getD val (s3 + i) 0 ≡ colOf 4 val₀ sa off x d i = omega (arith, term co l (so .0), term co l (so .1), term co l (so .2), term co l (so .3)) in
     (e, omega (arith, ru .fits i l))
 
--- where the 8 runs start
-pub record Sources8 (sa off : List ℕ) (x d n s0 s1 s2 s3 s4 s5 s6 s7 : ℕ) : Type 0 where
-  pub is0 : s0 ≡ sourceOf sa off x d 0
-  pub end0 : s0 + n ≤ d
-  pub is1 : s1 ≡ sourceOf sa off x d 1
-  pub end1 : s1 + n ≤ d
-  pub is2 : s2 ≡ sourceOf sa off x d 2
-  pub end2 : s2 + n ≤ d
-  pub is3 : s3 ≡ sourceOf sa off x d 3
-  pub end3 : s3 + n ≤ d
-  pub is4 : s4 ≡ sourceOf sa off x d 4
-  pub end4 : s4 + n ≤ d
-  pub is5 : s5 ≡ sourceOf sa off x d 5
-  pub end5 : s5 + n ≤ d
-  pub is6 : s6 ≡ sourceOf sa off x d 6
-  pub end6 : s6 + n ≤ d
-  pub is7 : s7 ≡ sourceOf sa off x d 7
-  pub end7 : s7 + n ≤ d
+abbrev pub Sources8 : List ℕ → List ℕ → ℕ → ℕ → ℕ → ℕ → ℕ → ℕ → ℕ → ℕ → ℕ → ℕ → ℕ → Type 0
+Sources8 sa off x d n s0 s1 s2 s3 s4 s5 s6 s7 = Source sa off x d n 0 s0 × Source sa off x d n 1 s1 × Source sa off x d n 2 s2 × Source sa off x d n 3 s3 × Source sa off x d n 4 s4 × Source sa off x d n 5 s5 × Source sa off x d n 6 s6 × Source sa off x d n 7 s7
 
 pub sum8 : {val₀ val sa off : List ℕ} {x d n i s0 s1 s2 s3 s4 s5 s6 s7 : ℕ} → Column 8 val₀ val sa off x d i → i < n → Sources8 sa off x d n s0 s1 s2 s3 s4 s5 s6 s7 → Run 8 val₀ sa off x d n
     → (getD val (s0 + i) 0 + getD val (s1 + i) 0 + getD val (s2 + i) 0 + getD val (s3 + i) 0 + getD val (s4 + i) 0 + getD val (s5 + i) 0 + getD val (s6 + i) 0 + getD val (s7 + i) 0 ≡ colOf 8 val₀ sa off x d i)
     × (getD val (s0 + i) 0 + getD val (s1 + i) 0 + getD val (s2 + i) 0 + getD val (s3 + i) 0 + getD val (s4 + i) 0 + getD val (s5 + i) 0 + getD val (s6 + i) 0 + getD val (s7 + i) 0 < 2 ^ 64)
 unfolding sum
 sum8 {val₀} {val} {sa} {off} {x} {d} {n} {i} {s0} {s1} {s2} {s3} {s4} {s5} {s6} {s7} co l so ru =
-    let at : (j s : ℕ) → s ≡ sourceOf sa off x d j → s + n ≤ d → getD val₀ (sourceOf sa off x d j + i) 0 ≡ getD val (s + i) 0 = term 8 val₀ val sa off x d n i co l in
-    let e : getD val (s0 + i) 0 + getD val (s1 + i) 0 + getD val (s2 + i) 0 + getD val (s3 + i) 0 + getD val (s4 + i) 0 + getD val (s5 + i) 0 + getD val (s6 + i) 0 + getD val (s7 + i) 0 ≡ colOf 8 val₀ sa off x d i =
-    omega (
-      arith,
-      at 0 s0 (so .is0) (so .end0),
-      at 1 s1 (so .is1) (so .end1),
-      at 2 s2 (so .is2) (so .end2),
-      at 3 s3 (so .is3) (so .end3),
-      at 4 s4 (so .is4) (so .end4),
-      at 5 s5 (so .is5) (so .end5),
-      at 6 s6 (so .is6) (so .end6),
-      at 7 s7 (so .is7) (so .end7),
-    ) in
+    let e : getD val (s0 + i) 0 + getD val (s1 + i) 0 + getD val (s2 + i) 0 + getD val (s3 + i) 0 + getD val (s4 + i) 0 + getD val (s5 + i) 0 + getD val (s6 + i) 0 + getD val (s7 + i) 0 ≡ colOf 8 val₀ sa off x d i = omega (arith, term co l (so .0), term co l (so .1), term co l (so .2), term co l (so .3), term co l (so .4), term co l (so .5), term co l (so .6), term co l (so .7)) in
     (e, omega (arith, ru .fits i l))
 
 -- the sums on the way fit where the whole does
@@ -146,14 +121,14 @@ module _ (i n d l l₀ : ℕ) (h : i < n) (r : d + n ≤ l₀) (q : l ≡ l₀) 
   pub to-in : d + i < l
   to-in = omega arith
 
+pub below-2 : (0 < 2) × (1 < 2)
+below-2 = (omega arith, omega arith)
+
 pub below-4 : (0 < 4) × (1 < 4) × (2 < 4) × (3 < 4)
 below-4 = (omega arith, omega arith, omega arith, omega arith)
 
 pub below-8 : (0 < 8) × (1 < 8) × (2 < 8) × (3 < 8) × (4 < 8) × (5 < 8) × (6 < 8) × (7 < 8)
 below-8 = (omega arith, omega arith, omega arith, omega arith, omega arith, omega arith, omega arith, omega arith)
-
-pub start-in : (s t n d : ℕ) → s ≡ t → t + n ≤ d → s + n ≤ d
-start-in s t n d e l = omega arith
 
 pub no-cell : (n : ℕ) → 0 ≤ n
 no-cell n = omega arith

@@ -70,6 +70,27 @@ pub(crate) fn column4(
     }
 }
 
+// The same where only the first two are.
+pub(crate) fn column2(
+    val: &mut [u64],
+    sa: &[usize; 8],
+    off: &[usize; 8],
+    x: usize,
+    d: usize,
+    n: usize,
+)
+    requires { ⌜ Run 2 (now val) (now sa) (now off) x d n ⌝ }
+    ensures { λ _. ⌜ Column 2 (now (val .entry)) (now (val .exit)) (now (sa .entry)) (now (off .entry)) x d n ⌝ }
+{
+    let s0 = source(sa, off, 0, x, d);
+    let s1 = source(sa, off, 1, x, d);
+    let mut i = 0;
+    while i < n {
+        val[d + i] = val[s0 + i] + val[s1 + i];
+        i += 1;
+    }
+}
+
 // Whether no cell from d to d + n is above 2^61 - 1: the bits above are summed, which needs no comparison a cell.
 pub(crate) fn is_small(val: &[u64], d: usize, n: usize) -> bool
     requires { ⌜ d + n ≤ length (now val) ⌝ }

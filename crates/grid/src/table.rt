@@ -2,6 +2,7 @@
 ghost use Prim.Native.Nat.{_+_};
 ghost use Rattle.tables.specs.Plans.{FlaggedFor, SpansFor};
 ghost use Rattle.tables.specs.Filling.{Begun, Before, After, Got, Resumed, Turn, Slow, Filled};
+use crate::column::column2;
 use crate::column::column4;
 use crate::column::column8;
 use crate::column::is_small;
@@ -34,6 +35,13 @@ fn step(
     }
     let d = (x + 1) * (p.m + p.ey + 1) + (p.m + from);
     let n = to - from;
+    if p.k <= 2 {
+        column2(val, sa, off, x, d, n);
+        if x <= 60 {
+            return true;
+        }
+        return is_small(val, d, n);
+    }
     if p.few {
         column4(val, sa, off, x, d, n);
         if x <= 30 {

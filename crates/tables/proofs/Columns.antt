@@ -7,14 +7,14 @@
 --   sheet-next, sheet-same    the sheet after a column, and where a column has no height that matters
 --   run-of                    a column's run can be summed
 --   column-table              the table after it
---   pow-small-8, pow-small-4, most-small, empty-small    when the next column needs no test
+--   pow-small, most-small, empty-small    when the next column needs no test
 --   empty-table               the table after a column with no height that matters
 use mathlib.Core.Path.{_≡_, sym, ap, _∙_}
 use mathlib.Core.List.{List}
-use Prim.Native.Nat.{ℕ, _+_, _-_, _*_, _≤_, _<_}
+use Prim.Native.Nat.{ℕ, _+_, _-_, _*_, _^_, _≤_, _<_}
 use native.Mathlib.Omega.{arith}
 use native.Mathlib.Decide.{decLe, decLt}
-use native.Mathlib.Nat.{mul-add, add-mul, mul-le-mul-right}
+use native.Mathlib.Nat.{mul-add, add-mul, mul-le-mul-right, le-trans}
 use lib.ListN.{length, getD}
 use borrow.Author.Tests.{lt-ltb, le-ltb}
 use Rattle.howmany.specs.Sum.{sum}
@@ -178,11 +178,8 @@ module _ {k f : ℕ} {sa sc off : List ℕ} {hi m ex ey : ℕ} (pl : Slopes k sa
       same : (u y : ℕ) → u < x + 1 → (u < x → ⊥) → Ends hi ex ey u y → W k f sa sc u y ≤ 2305843009213693951
       same u y l h en = let e : u ≡ x = omega arith in rw e (all y (rw e at en))
 
-  pub pow-small-8 : x ≤ 20 → Small k f sa sc hi ex ey x → Small k f sa sc hi ex ey (x + 1)
-  pow-small-8 l sm = small-next sm (λ y en. omega (arith, W-pow k f sa sc pl 8 (omega arith) (omega arith) (λ i p q. absurd (omega arith)) 20 x y l lx))
-
-  pub pow-small-4 : ((i : ℕ) → 4 ≤ i → i < 8 → ex < getD sa i 0) → x ≤ 30 → Small k f sa sc hi ex ey x → Small k f sa sc hi ex ey (x + 1)
-  pow-small-4 gone l sm = small-next sm (λ y en. omega (arith, W-pow k f sa sc pl 4 (omega arith) (omega arith) gone 30 x y l lx))
+  pub pow-small : (n : ℕ) → 1 ≤ n → n ≤ 8 → ((i : ℕ) → n ≤ i → i < 8 → ex < getD sa i 0) → (top : ℕ) → n ^ top ≤ 2305843009213693951 → x ≤ top → Small k f sa sc hi ex ey x → Small k f sa sc hi ex ey (x + 1)
+  pow-small n n-pos n-le gone top le l sm = small-next sm (λ y en. le-trans (W-pow k f sa sc pl n n-pos n-le gone top x y l lx) le)
 
   module _ (from to : ℕ) (fr : From f hi ex ey x from) (up : To f hi ey x to) where
     -- the table after a column

@@ -3,7 +3,7 @@ use mathlib.Core.Path.{_≡_, refl}
 use native.Mathlib.Omega.{arith}
 use lib.ListN.{length, length-set}
 use Rattle.tables.specs.Cells.{Run, Column}
-use Rattle.grid.proofs.Sums.{Sources4, sum4, parts4, at-fits, at-byte, at-in, to-fits, to-byte, to-in, below-4, below-8, start-in, no-cell, more-le, more-fits, fewer-left, all-of, column-none, column-more, column-at}
+use Rattle.grid.proofs.Sums.{Sources4, sum4, parts4, at-fits, at-byte, at-in, to-fits, to-byte, to-in, below-4, below-8, source-at, no-cell, more-le, more-fits, fewer-left, all-of, column-none, column-more, column-at}
 use Rattle.grid.proofs.column.column4.Statement.{statement}
 use Rattle.grid.proofs.column.column4.Tie as tie
 
@@ -27,49 +27,49 @@ source-requires-4 : tie.Need-source-requires-4 Inv-loop μ-loop
 source-requires-4 c κs = (below-8 .3, c .before .before .before .before .pre .back 3 (below-4 .3))
 
 loop-holds : tie.Need-loop-holds Inv-loop μ-loop
-loop-holds c = (no-cell _, refl, c .before .before .before .before .before .pre .inside, record { is0 = c .before .before .before .source .ensures; end0 = start-in _ _ _ _ (c .before .before .before .source .ensures) (c .before .before .before .before .before .pre .apart 0 (below-4 .0)); is1 = c .before .before .source2 .ensures; end1 = start-in _ _ _ _ (c .before .before .source2 .ensures) (c .before .before .before .before .before .pre .apart 1 (below-4 .1)); is2 = c .before .source3 .ensures; end2 = start-in _ _ _ _ (c .before .source3 .ensures) (c .before .before .before .before .before .pre .apart 2 (below-4 .2)); is3 = c .source4 .ensures; end3 = start-in _ _ _ _ (c .source4 .ensures) (c .before .before .before .before .before .pre .apart 3 (below-4 .3)) }, c .before .before .before .before .before .pre, column-none _ _ _ _ _ _, omega (arith, c .before .before .before .before .before .pre .inside))
+loop-holds c = (no-cell _, refl, c .before .before .before .before .before .pre .inside, (source-at (c .before .before .before .before .before .pre) 0 (below-4 .0) (c .before .before .before .source .ensures), source-at (c .before .before .before .before .before .pre) 1 (below-4 .1) (c .before .before .source2 .ensures), source-at (c .before .before .before .before .before .pre) 2 (below-4 .2) (c .before .source3 .ensures), source-at (c .before .before .before .before .before .pre) 3 (below-4 .3) (c .source4 .ensures)), c .before .before .before .before .before .pre, column-none _ _ _ _ _ _, omega (arith, c .before .before .before .before .before .pre .inside))
 
 add-val : tie.Need-add-val Inv-loop μ-loop
-add-val c = record { fits = at-fits _ _ _ _ _ _ (c .loop-test .taken) (c .before .loop .inv .3 .end0) (c .before .loop .inv .2) (c .before .loop .inv .1) (c .before .loop .inv .6) }
+add-val c = record { fits = at-fits _ _ _ _ _ _ (c .loop-test .taken) (c .before .loop .inv .3 .0 .end) (c .before .loop .inv .2) (c .before .loop .inv .1) (c .before .loop .inv .6) }
 
 mul-val : tie.Need-mul-val Inv-loop μ-loop
-mul-val c = record { fits = at-byte _ _ _ _ _ _ (c .loop-test .taken) (c .before .loop .inv .3 .end0) (c .before .loop .inv .2) (c .before .loop .inv .1) (c .before .loop .inv .6) }
+mul-val c = record { fits = at-byte _ _ _ _ _ _ (c .loop-test .taken) (c .before .loop .inv .3 .0 .end) (c .before .loop .inv .2) (c .before .loop .inv .1) (c .before .loop .inv .6) }
 
 slice-read-val : tie.Need-slice-read-val Inv-loop μ-loop
-slice-read-val c = at-in _ _ _ _ _ _ (c .before .loop-test .taken) (c .before .before .loop .inv .3 .end0) (c .before .before .loop .inv .2) (c .before .before .loop .inv .1) (c .before .before .loop .inv .6)
+slice-read-val c = at-in _ _ _ _ _ _ (c .before .loop-test .taken) (c .before .before .loop .inv .3 .0 .end) (c .before .before .loop .inv .2) (c .before .before .loop .inv .1) (c .before .before .loop .inv .6)
 
 add-val-2 : tie.Need-add-val-2 Inv-loop μ-loop
-add-val-2 c = record { fits = at-fits _ _ _ _ _ _ (c .before .loop-test .taken) (c .before .before .loop .inv .3 .end1) (c .before .before .loop .inv .2) (c .before .before .loop .inv .1) (c .before .before .loop .inv .6) }
+add-val-2 c = record { fits = at-fits _ _ _ _ _ _ (c .before .loop-test .taken) (c .before .before .loop .inv .3 .1 .end) (c .before .before .loop .inv .2) (c .before .before .loop .inv .1) (c .before .before .loop .inv .6) }
 
 mul-val-2 : tie.Need-mul-val-2 Inv-loop μ-loop
-mul-val-2 c = record { fits = at-byte _ _ _ _ _ _ (c .before .loop-test .taken) (c .before .before .loop .inv .3 .end1) (c .before .before .loop .inv .2) (c .before .before .loop .inv .1) (c .before .before .loop .inv .6) }
+mul-val-2 c = record { fits = at-byte _ _ _ _ _ _ (c .before .loop-test .taken) (c .before .before .loop .inv .3 .1 .end) (c .before .before .loop .inv .2) (c .before .before .loop .inv .1) (c .before .before .loop .inv .6) }
 
 slice-read-val-2 : tie.Need-slice-read-val-2 Inv-loop μ-loop
-slice-read-val-2 c = at-in _ _ _ _ _ _ (c .before .before .loop-test .taken) (c .before .before .before .loop .inv .3 .end1) (c .before .before .before .loop .inv .2) (c .before .before .before .loop .inv .1) (c .before .before .before .loop .inv .6)
+slice-read-val-2 c = at-in _ _ _ _ _ _ (c .before .before .loop-test .taken) (c .before .before .before .loop .inv .3 .1 .end) (c .before .before .before .loop .inv .2) (c .before .before .before .loop .inv .1) (c .before .before .before .loop .inv .6)
 
 add-val-3 : tie.Need-add-val-3 Inv-loop μ-loop
 add-val-3 c = record { fits = parts4 _ _ _ _ (sum4 (c .before .before .before .loop .inv .5) (c .before .before .loop-test .taken) (c .before .before .before .loop .inv .3) (c .before .before .before .loop .inv .4) .1) .two }
 
 add-val-4 : tie.Need-add-val-4 Inv-loop μ-loop
-add-val-4 c = record { fits = at-fits _ _ _ _ _ _ (c .before .before .loop-test .taken) (c .before .before .before .loop .inv .3 .end2) (c .before .before .before .loop .inv .2) (c .before .before .before .loop .inv .1) (c .before .before .before .loop .inv .6) }
+add-val-4 c = record { fits = at-fits _ _ _ _ _ _ (c .before .before .loop-test .taken) (c .before .before .before .loop .inv .3 .2 .end) (c .before .before .before .loop .inv .2) (c .before .before .before .loop .inv .1) (c .before .before .before .loop .inv .6) }
 
 mul-val-3 : tie.Need-mul-val-3 Inv-loop μ-loop
-mul-val-3 c = record { fits = at-byte _ _ _ _ _ _ (c .before .before .loop-test .taken) (c .before .before .before .loop .inv .3 .end2) (c .before .before .before .loop .inv .2) (c .before .before .before .loop .inv .1) (c .before .before .before .loop .inv .6) }
+mul-val-3 c = record { fits = at-byte _ _ _ _ _ _ (c .before .before .loop-test .taken) (c .before .before .before .loop .inv .3 .2 .end) (c .before .before .before .loop .inv .2) (c .before .before .before .loop .inv .1) (c .before .before .before .loop .inv .6) }
 
 slice-read-val-3 : tie.Need-slice-read-val-3 Inv-loop μ-loop
-slice-read-val-3 c = at-in _ _ _ _ _ _ (c .before .before .before .loop-test .taken) (c .before .before .before .before .loop .inv .3 .end2) (c .before .before .before .before .loop .inv .2) (c .before .before .before .before .loop .inv .1) (c .before .before .before .before .loop .inv .6)
+slice-read-val-3 c = at-in _ _ _ _ _ _ (c .before .before .before .loop-test .taken) (c .before .before .before .before .loop .inv .3 .2 .end) (c .before .before .before .before .loop .inv .2) (c .before .before .before .before .loop .inv .1) (c .before .before .before .before .loop .inv .6)
 
 add-val-5 : tie.Need-add-val-5 Inv-loop μ-loop
 add-val-5 c = record { fits = parts4 _ _ _ _ (sum4 (c .before .before .before .before .loop .inv .5) (c .before .before .before .loop-test .taken) (c .before .before .before .before .loop .inv .3) (c .before .before .before .before .loop .inv .4) .1) .three }
 
 add-val-6 : tie.Need-add-val-6 Inv-loop μ-loop
-add-val-6 c = record { fits = at-fits _ _ _ _ _ _ (c .before .before .before .loop-test .taken) (c .before .before .before .before .loop .inv .3 .end3) (c .before .before .before .before .loop .inv .2) (c .before .before .before .before .loop .inv .1) (c .before .before .before .before .loop .inv .6) }
+add-val-6 c = record { fits = at-fits _ _ _ _ _ _ (c .before .before .before .loop-test .taken) (c .before .before .before .before .loop .inv .3 .3 .end) (c .before .before .before .before .loop .inv .2) (c .before .before .before .before .loop .inv .1) (c .before .before .before .before .loop .inv .6) }
 
 mul-val-4 : tie.Need-mul-val-4 Inv-loop μ-loop
-mul-val-4 c = record { fits = at-byte _ _ _ _ _ _ (c .before .before .before .loop-test .taken) (c .before .before .before .before .loop .inv .3 .end3) (c .before .before .before .before .loop .inv .2) (c .before .before .before .before .loop .inv .1) (c .before .before .before .before .loop .inv .6) }
+mul-val-4 c = record { fits = at-byte _ _ _ _ _ _ (c .before .before .before .loop-test .taken) (c .before .before .before .before .loop .inv .3 .3 .end) (c .before .before .before .before .loop .inv .2) (c .before .before .before .before .loop .inv .1) (c .before .before .before .before .loop .inv .6) }
 
 slice-read-val-4 : tie.Need-slice-read-val-4 Inv-loop μ-loop
-slice-read-val-4 c = at-in _ _ _ _ _ _ (c .before .before .before .before .loop-test .taken) (c .before .before .before .before .before .loop .inv .3 .end3) (c .before .before .before .before .before .loop .inv .2) (c .before .before .before .before .before .loop .inv .1) (c .before .before .before .before .before .loop .inv .6)
+slice-read-val-4 c = at-in _ _ _ _ _ _ (c .before .before .before .before .loop-test .taken) (c .before .before .before .before .before .loop .inv .3 .3 .end) (c .before .before .before .before .before .loop .inv .2) (c .before .before .before .before .before .loop .inv .1) (c .before .before .before .before .before .loop .inv .6)
 
 add-val-7 : tie.Need-add-val-7 Inv-loop μ-loop
 add-val-7 c = record { fits = parts4 _ _ _ _ (sum4 (c .before .before .before .before .before .loop .inv .5) (c .before .before .before .before .loop-test .taken) (c .before .before .before .before .before .loop .inv .3) (c .before .before .before .before .before .loop .inv .4) .1) .four }

@@ -3,7 +3,7 @@ use mathlib.Core.Path.{_≡_, refl}
 use native.Mathlib.Omega.{arith}
 use lib.ListN.{length, length-set}
 use Rattle.tables.specs.Cells.{Run, Column}
-use Rattle.grid.proofs.Sums.{Sources8, sum8, parts8, at-fits, at-byte, at-in, to-fits, to-byte, to-in, below-8, start-in, no-cell, more-le, more-fits, fewer-left, all-of, column-none, column-more, column-at}
+use Rattle.grid.proofs.Sums.{Sources8, sum8, parts8, at-fits, at-byte, at-in, to-fits, to-byte, to-in, below-8, source-at, no-cell, more-le, more-fits, fewer-left, all-of, column-none, column-more, column-at}
 use Rattle.grid.proofs.column.column8.Statement.{statement}
 use Rattle.grid.proofs.column.column8.Tie as tie
 
@@ -39,97 +39,97 @@ source-requires-8 : tie.Need-source-requires-8 Inv-loop μ-loop
 source-requires-8 c κs = (below-8 .7, c .before .before .before .before .before .before .before .before .pre .back 7 (below-8 .7))
 
 loop-holds : tie.Need-loop-holds Inv-loop μ-loop
-loop-holds c = (no-cell _, refl, c .before .before .before .before .before .before .before .before .before .pre .inside, record { is0 = c .before .before .before .before .before .before .before .source .ensures; end0 = start-in _ _ _ _ (c .before .before .before .before .before .before .before .source .ensures) (c .before .before .before .before .before .before .before .before .before .pre .apart 0 (below-8 .0)); is1 = c .before .before .before .before .before .before .source2 .ensures; end1 = start-in _ _ _ _ (c .before .before .before .before .before .before .source2 .ensures) (c .before .before .before .before .before .before .before .before .before .pre .apart 1 (below-8 .1)); is2 = c .before .before .before .before .before .source3 .ensures; end2 = start-in _ _ _ _ (c .before .before .before .before .before .source3 .ensures) (c .before .before .before .before .before .before .before .before .before .pre .apart 2 (below-8 .2)); is3 = c .before .before .before .before .source4 .ensures; end3 = start-in _ _ _ _ (c .before .before .before .before .source4 .ensures) (c .before .before .before .before .before .before .before .before .before .pre .apart 3 (below-8 .3)); is4 = c .before .before .before .source5 .ensures; end4 = start-in _ _ _ _ (c .before .before .before .source5 .ensures) (c .before .before .before .before .before .before .before .before .before .pre .apart 4 (below-8 .4)); is5 = c .before .before .source6 .ensures; end5 = start-in _ _ _ _ (c .before .before .source6 .ensures) (c .before .before .before .before .before .before .before .before .before .pre .apart 5 (below-8 .5)); is6 = c .before .source7 .ensures; end6 = start-in _ _ _ _ (c .before .source7 .ensures) (c .before .before .before .before .before .before .before .before .before .pre .apart 6 (below-8 .6)); is7 = c .source8 .ensures; end7 = start-in _ _ _ _ (c .source8 .ensures) (c .before .before .before .before .before .before .before .before .before .pre .apart 7 (below-8 .7)) }, c .before .before .before .before .before .before .before .before .before .pre, column-none _ _ _ _ _ _, omega (arith, c .before .before .before .before .before .before .before .before .before .pre .inside))
+loop-holds c = (no-cell _, refl, c .before .before .before .before .before .before .before .before .before .pre .inside, (source-at (c .before .before .before .before .before .before .before .before .before .pre) 0 (below-8 .0) (c .before .before .before .before .before .before .before .source .ensures), source-at (c .before .before .before .before .before .before .before .before .before .pre) 1 (below-8 .1) (c .before .before .before .before .before .before .source2 .ensures), source-at (c .before .before .before .before .before .before .before .before .before .pre) 2 (below-8 .2) (c .before .before .before .before .before .source3 .ensures), source-at (c .before .before .before .before .before .before .before .before .before .pre) 3 (below-8 .3) (c .before .before .before .before .source4 .ensures), source-at (c .before .before .before .before .before .before .before .before .before .pre) 4 (below-8 .4) (c .before .before .before .source5 .ensures), source-at (c .before .before .before .before .before .before .before .before .before .pre) 5 (below-8 .5) (c .before .before .source6 .ensures), source-at (c .before .before .before .before .before .before .before .before .before .pre) 6 (below-8 .6) (c .before .source7 .ensures), source-at (c .before .before .before .before .before .before .before .before .before .pre) 7 (below-8 .7) (c .source8 .ensures)), c .before .before .before .before .before .before .before .before .before .pre, column-none _ _ _ _ _ _, omega (arith, c .before .before .before .before .before .before .before .before .before .pre .inside))
 
 add-val : tie.Need-add-val Inv-loop μ-loop
-add-val c = record { fits = at-fits _ _ _ _ _ _ (c .loop-test .taken) (c .before .loop .inv .3 .end0) (c .before .loop .inv .2) (c .before .loop .inv .1) (c .before .loop .inv .6) }
+add-val c = record { fits = at-fits _ _ _ _ _ _ (c .loop-test .taken) (c .before .loop .inv .3 .0 .end) (c .before .loop .inv .2) (c .before .loop .inv .1) (c .before .loop .inv .6) }
 
 mul-val : tie.Need-mul-val Inv-loop μ-loop
-mul-val c = record { fits = at-byte _ _ _ _ _ _ (c .loop-test .taken) (c .before .loop .inv .3 .end0) (c .before .loop .inv .2) (c .before .loop .inv .1) (c .before .loop .inv .6) }
+mul-val c = record { fits = at-byte _ _ _ _ _ _ (c .loop-test .taken) (c .before .loop .inv .3 .0 .end) (c .before .loop .inv .2) (c .before .loop .inv .1) (c .before .loop .inv .6) }
 
 slice-read-val : tie.Need-slice-read-val Inv-loop μ-loop
-slice-read-val c = at-in _ _ _ _ _ _ (c .before .loop-test .taken) (c .before .before .loop .inv .3 .end0) (c .before .before .loop .inv .2) (c .before .before .loop .inv .1) (c .before .before .loop .inv .6)
+slice-read-val c = at-in _ _ _ _ _ _ (c .before .loop-test .taken) (c .before .before .loop .inv .3 .0 .end) (c .before .before .loop .inv .2) (c .before .before .loop .inv .1) (c .before .before .loop .inv .6)
 
 add-val-2 : tie.Need-add-val-2 Inv-loop μ-loop
-add-val-2 c = record { fits = at-fits _ _ _ _ _ _ (c .before .loop-test .taken) (c .before .before .loop .inv .3 .end1) (c .before .before .loop .inv .2) (c .before .before .loop .inv .1) (c .before .before .loop .inv .6) }
+add-val-2 c = record { fits = at-fits _ _ _ _ _ _ (c .before .loop-test .taken) (c .before .before .loop .inv .3 .1 .end) (c .before .before .loop .inv .2) (c .before .before .loop .inv .1) (c .before .before .loop .inv .6) }
 
 mul-val-2 : tie.Need-mul-val-2 Inv-loop μ-loop
-mul-val-2 c = record { fits = at-byte _ _ _ _ _ _ (c .before .loop-test .taken) (c .before .before .loop .inv .3 .end1) (c .before .before .loop .inv .2) (c .before .before .loop .inv .1) (c .before .before .loop .inv .6) }
+mul-val-2 c = record { fits = at-byte _ _ _ _ _ _ (c .before .loop-test .taken) (c .before .before .loop .inv .3 .1 .end) (c .before .before .loop .inv .2) (c .before .before .loop .inv .1) (c .before .before .loop .inv .6) }
 
 slice-read-val-2 : tie.Need-slice-read-val-2 Inv-loop μ-loop
-slice-read-val-2 c = at-in _ _ _ _ _ _ (c .before .before .loop-test .taken) (c .before .before .before .loop .inv .3 .end1) (c .before .before .before .loop .inv .2) (c .before .before .before .loop .inv .1) (c .before .before .before .loop .inv .6)
+slice-read-val-2 c = at-in _ _ _ _ _ _ (c .before .before .loop-test .taken) (c .before .before .before .loop .inv .3 .1 .end) (c .before .before .before .loop .inv .2) (c .before .before .before .loop .inv .1) (c .before .before .before .loop .inv .6)
 
 add-val-3 : tie.Need-add-val-3 Inv-loop μ-loop
 add-val-3 c = record { fits = parts8 _ _ _ _ _ _ _ _ (sum8 (c .before .before .before .loop .inv .5) (c .before .before .loop-test .taken) (c .before .before .before .loop .inv .3) (c .before .before .before .loop .inv .4) .1) .two }
 
 add-val-4 : tie.Need-add-val-4 Inv-loop μ-loop
-add-val-4 c = record { fits = at-fits _ _ _ _ _ _ (c .before .before .loop-test .taken) (c .before .before .before .loop .inv .3 .end2) (c .before .before .before .loop .inv .2) (c .before .before .before .loop .inv .1) (c .before .before .before .loop .inv .6) }
+add-val-4 c = record { fits = at-fits _ _ _ _ _ _ (c .before .before .loop-test .taken) (c .before .before .before .loop .inv .3 .2 .end) (c .before .before .before .loop .inv .2) (c .before .before .before .loop .inv .1) (c .before .before .before .loop .inv .6) }
 
 mul-val-3 : tie.Need-mul-val-3 Inv-loop μ-loop
-mul-val-3 c = record { fits = at-byte _ _ _ _ _ _ (c .before .before .loop-test .taken) (c .before .before .before .loop .inv .3 .end2) (c .before .before .before .loop .inv .2) (c .before .before .before .loop .inv .1) (c .before .before .before .loop .inv .6) }
+mul-val-3 c = record { fits = at-byte _ _ _ _ _ _ (c .before .before .loop-test .taken) (c .before .before .before .loop .inv .3 .2 .end) (c .before .before .before .loop .inv .2) (c .before .before .before .loop .inv .1) (c .before .before .before .loop .inv .6) }
 
 slice-read-val-3 : tie.Need-slice-read-val-3 Inv-loop μ-loop
-slice-read-val-3 c = at-in _ _ _ _ _ _ (c .before .before .before .loop-test .taken) (c .before .before .before .before .loop .inv .3 .end2) (c .before .before .before .before .loop .inv .2) (c .before .before .before .before .loop .inv .1) (c .before .before .before .before .loop .inv .6)
+slice-read-val-3 c = at-in _ _ _ _ _ _ (c .before .before .before .loop-test .taken) (c .before .before .before .before .loop .inv .3 .2 .end) (c .before .before .before .before .loop .inv .2) (c .before .before .before .before .loop .inv .1) (c .before .before .before .before .loop .inv .6)
 
 add-val-5 : tie.Need-add-val-5 Inv-loop μ-loop
 add-val-5 c = record { fits = parts8 _ _ _ _ _ _ _ _ (sum8 (c .before .before .before .before .loop .inv .5) (c .before .before .before .loop-test .taken) (c .before .before .before .before .loop .inv .3) (c .before .before .before .before .loop .inv .4) .1) .three }
 
 add-val-6 : tie.Need-add-val-6 Inv-loop μ-loop
-add-val-6 c = record { fits = at-fits _ _ _ _ _ _ (c .before .before .before .loop-test .taken) (c .before .before .before .before .loop .inv .3 .end3) (c .before .before .before .before .loop .inv .2) (c .before .before .before .before .loop .inv .1) (c .before .before .before .before .loop .inv .6) }
+add-val-6 c = record { fits = at-fits _ _ _ _ _ _ (c .before .before .before .loop-test .taken) (c .before .before .before .before .loop .inv .3 .3 .end) (c .before .before .before .before .loop .inv .2) (c .before .before .before .before .loop .inv .1) (c .before .before .before .before .loop .inv .6) }
 
 mul-val-4 : tie.Need-mul-val-4 Inv-loop μ-loop
-mul-val-4 c = record { fits = at-byte _ _ _ _ _ _ (c .before .before .before .loop-test .taken) (c .before .before .before .before .loop .inv .3 .end3) (c .before .before .before .before .loop .inv .2) (c .before .before .before .before .loop .inv .1) (c .before .before .before .before .loop .inv .6) }
+mul-val-4 c = record { fits = at-byte _ _ _ _ _ _ (c .before .before .before .loop-test .taken) (c .before .before .before .before .loop .inv .3 .3 .end) (c .before .before .before .before .loop .inv .2) (c .before .before .before .before .loop .inv .1) (c .before .before .before .before .loop .inv .6) }
 
 slice-read-val-4 : tie.Need-slice-read-val-4 Inv-loop μ-loop
-slice-read-val-4 c = at-in _ _ _ _ _ _ (c .before .before .before .before .loop-test .taken) (c .before .before .before .before .before .loop .inv .3 .end3) (c .before .before .before .before .before .loop .inv .2) (c .before .before .before .before .before .loop .inv .1) (c .before .before .before .before .before .loop .inv .6)
+slice-read-val-4 c = at-in _ _ _ _ _ _ (c .before .before .before .before .loop-test .taken) (c .before .before .before .before .before .loop .inv .3 .3 .end) (c .before .before .before .before .before .loop .inv .2) (c .before .before .before .before .before .loop .inv .1) (c .before .before .before .before .before .loop .inv .6)
 
 add-val-7 : tie.Need-add-val-7 Inv-loop μ-loop
 add-val-7 c = record { fits = parts8 _ _ _ _ _ _ _ _ (sum8 (c .before .before .before .before .before .loop .inv .5) (c .before .before .before .before .loop-test .taken) (c .before .before .before .before .before .loop .inv .3) (c .before .before .before .before .before .loop .inv .4) .1) .four }
 
 add-val-8 : tie.Need-add-val-8 Inv-loop μ-loop
-add-val-8 c = record { fits = at-fits _ _ _ _ _ _ (c .before .before .before .before .loop-test .taken) (c .before .before .before .before .before .loop .inv .3 .end4) (c .before .before .before .before .before .loop .inv .2) (c .before .before .before .before .before .loop .inv .1) (c .before .before .before .before .before .loop .inv .6) }
+add-val-8 c = record { fits = at-fits _ _ _ _ _ _ (c .before .before .before .before .loop-test .taken) (c .before .before .before .before .before .loop .inv .3 .4 .end) (c .before .before .before .before .before .loop .inv .2) (c .before .before .before .before .before .loop .inv .1) (c .before .before .before .before .before .loop .inv .6) }
 
 mul-val-5 : tie.Need-mul-val-5 Inv-loop μ-loop
-mul-val-5 c = record { fits = at-byte _ _ _ _ _ _ (c .before .before .before .before .loop-test .taken) (c .before .before .before .before .before .loop .inv .3 .end4) (c .before .before .before .before .before .loop .inv .2) (c .before .before .before .before .before .loop .inv .1) (c .before .before .before .before .before .loop .inv .6) }
+mul-val-5 c = record { fits = at-byte _ _ _ _ _ _ (c .before .before .before .before .loop-test .taken) (c .before .before .before .before .before .loop .inv .3 .4 .end) (c .before .before .before .before .before .loop .inv .2) (c .before .before .before .before .before .loop .inv .1) (c .before .before .before .before .before .loop .inv .6) }
 
 slice-read-val-5 : tie.Need-slice-read-val-5 Inv-loop μ-loop
-slice-read-val-5 c = at-in _ _ _ _ _ _ (c .before .before .before .before .before .loop-test .taken) (c .before .before .before .before .before .before .loop .inv .3 .end4) (c .before .before .before .before .before .before .loop .inv .2) (c .before .before .before .before .before .before .loop .inv .1) (c .before .before .before .before .before .before .loop .inv .6)
+slice-read-val-5 c = at-in _ _ _ _ _ _ (c .before .before .before .before .before .loop-test .taken) (c .before .before .before .before .before .before .loop .inv .3 .4 .end) (c .before .before .before .before .before .before .loop .inv .2) (c .before .before .before .before .before .before .loop .inv .1) (c .before .before .before .before .before .before .loop .inv .6)
 
 add-val-9 : tie.Need-add-val-9 Inv-loop μ-loop
 add-val-9 c = record { fits = parts8 _ _ _ _ _ _ _ _ (sum8 (c .before .before .before .before .before .before .loop .inv .5) (c .before .before .before .before .before .loop-test .taken) (c .before .before .before .before .before .before .loop .inv .3) (c .before .before .before .before .before .before .loop .inv .4) .1) .five }
 
 add-val-10 : tie.Need-add-val-10 Inv-loop μ-loop
-add-val-10 c = record { fits = at-fits _ _ _ _ _ _ (c .before .before .before .before .before .loop-test .taken) (c .before .before .before .before .before .before .loop .inv .3 .end5) (c .before .before .before .before .before .before .loop .inv .2) (c .before .before .before .before .before .before .loop .inv .1) (c .before .before .before .before .before .before .loop .inv .6) }
+add-val-10 c = record { fits = at-fits _ _ _ _ _ _ (c .before .before .before .before .before .loop-test .taken) (c .before .before .before .before .before .before .loop .inv .3 .5 .end) (c .before .before .before .before .before .before .loop .inv .2) (c .before .before .before .before .before .before .loop .inv .1) (c .before .before .before .before .before .before .loop .inv .6) }
 
 mul-val-6 : tie.Need-mul-val-6 Inv-loop μ-loop
-mul-val-6 c = record { fits = at-byte _ _ _ _ _ _ (c .before .before .before .before .before .loop-test .taken) (c .before .before .before .before .before .before .loop .inv .3 .end5) (c .before .before .before .before .before .before .loop .inv .2) (c .before .before .before .before .before .before .loop .inv .1) (c .before .before .before .before .before .before .loop .inv .6) }
+mul-val-6 c = record { fits = at-byte _ _ _ _ _ _ (c .before .before .before .before .before .loop-test .taken) (c .before .before .before .before .before .before .loop .inv .3 .5 .end) (c .before .before .before .before .before .before .loop .inv .2) (c .before .before .before .before .before .before .loop .inv .1) (c .before .before .before .before .before .before .loop .inv .6) }
 
 slice-read-val-6 : tie.Need-slice-read-val-6 Inv-loop μ-loop
-slice-read-val-6 c = at-in _ _ _ _ _ _ (c .before .before .before .before .before .before .loop-test .taken) (c .before .before .before .before .before .before .before .loop .inv .3 .end5) (c .before .before .before .before .before .before .before .loop .inv .2) (c .before .before .before .before .before .before .before .loop .inv .1) (c .before .before .before .before .before .before .before .loop .inv .6)
+slice-read-val-6 c = at-in _ _ _ _ _ _ (c .before .before .before .before .before .before .loop-test .taken) (c .before .before .before .before .before .before .before .loop .inv .3 .5 .end) (c .before .before .before .before .before .before .before .loop .inv .2) (c .before .before .before .before .before .before .before .loop .inv .1) (c .before .before .before .before .before .before .before .loop .inv .6)
 
 add-val-11 : tie.Need-add-val-11 Inv-loop μ-loop
 add-val-11 c = record { fits = parts8 _ _ _ _ _ _ _ _ (sum8 (c .before .before .before .before .before .before .before .loop .inv .5) (c .before .before .before .before .before .before .loop-test .taken) (c .before .before .before .before .before .before .before .loop .inv .3) (c .before .before .before .before .before .before .before .loop .inv .4) .1) .six }
 
 add-val-12 : tie.Need-add-val-12 Inv-loop μ-loop
-add-val-12 c = record { fits = at-fits _ _ _ _ _ _ (c .before .before .before .before .before .before .loop-test .taken) (c .before .before .before .before .before .before .before .loop .inv .3 .end6) (c .before .before .before .before .before .before .before .loop .inv .2) (c .before .before .before .before .before .before .before .loop .inv .1) (c .before .before .before .before .before .before .before .loop .inv .6) }
+add-val-12 c = record { fits = at-fits _ _ _ _ _ _ (c .before .before .before .before .before .before .loop-test .taken) (c .before .before .before .before .before .before .before .loop .inv .3 .6 .end) (c .before .before .before .before .before .before .before .loop .inv .2) (c .before .before .before .before .before .before .before .loop .inv .1) (c .before .before .before .before .before .before .before .loop .inv .6) }
 
 mul-val-7 : tie.Need-mul-val-7 Inv-loop μ-loop
-mul-val-7 c = record { fits = at-byte _ _ _ _ _ _ (c .before .before .before .before .before .before .loop-test .taken) (c .before .before .before .before .before .before .before .loop .inv .3 .end6) (c .before .before .before .before .before .before .before .loop .inv .2) (c .before .before .before .before .before .before .before .loop .inv .1) (c .before .before .before .before .before .before .before .loop .inv .6) }
+mul-val-7 c = record { fits = at-byte _ _ _ _ _ _ (c .before .before .before .before .before .before .loop-test .taken) (c .before .before .before .before .before .before .before .loop .inv .3 .6 .end) (c .before .before .before .before .before .before .before .loop .inv .2) (c .before .before .before .before .before .before .before .loop .inv .1) (c .before .before .before .before .before .before .before .loop .inv .6) }
 
 slice-read-val-7 : tie.Need-slice-read-val-7 Inv-loop μ-loop
-slice-read-val-7 c = at-in _ _ _ _ _ _ (c .before .before .before .before .before .before .before .loop-test .taken) (c .before .before .before .before .before .before .before .before .loop .inv .3 .end6) (c .before .before .before .before .before .before .before .before .loop .inv .2) (c .before .before .before .before .before .before .before .before .loop .inv .1) (c .before .before .before .before .before .before .before .before .loop .inv .6)
+slice-read-val-7 c = at-in _ _ _ _ _ _ (c .before .before .before .before .before .before .before .loop-test .taken) (c .before .before .before .before .before .before .before .before .loop .inv .3 .6 .end) (c .before .before .before .before .before .before .before .before .loop .inv .2) (c .before .before .before .before .before .before .before .before .loop .inv .1) (c .before .before .before .before .before .before .before .before .loop .inv .6)
 
 add-val-13 : tie.Need-add-val-13 Inv-loop μ-loop
 add-val-13 c = record { fits = parts8 _ _ _ _ _ _ _ _ (sum8 (c .before .before .before .before .before .before .before .before .loop .inv .5) (c .before .before .before .before .before .before .before .loop-test .taken) (c .before .before .before .before .before .before .before .before .loop .inv .3) (c .before .before .before .before .before .before .before .before .loop .inv .4) .1) .seven }
 
 add-val-14 : tie.Need-add-val-14 Inv-loop μ-loop
-add-val-14 c = record { fits = at-fits _ _ _ _ _ _ (c .before .before .before .before .before .before .before .loop-test .taken) (c .before .before .before .before .before .before .before .before .loop .inv .3 .end7) (c .before .before .before .before .before .before .before .before .loop .inv .2) (c .before .before .before .before .before .before .before .before .loop .inv .1) (c .before .before .before .before .before .before .before .before .loop .inv .6) }
+add-val-14 c = record { fits = at-fits _ _ _ _ _ _ (c .before .before .before .before .before .before .before .loop-test .taken) (c .before .before .before .before .before .before .before .before .loop .inv .3 .7 .end) (c .before .before .before .before .before .before .before .before .loop .inv .2) (c .before .before .before .before .before .before .before .before .loop .inv .1) (c .before .before .before .before .before .before .before .before .loop .inv .6) }
 
 mul-val-8 : tie.Need-mul-val-8 Inv-loop μ-loop
-mul-val-8 c = record { fits = at-byte _ _ _ _ _ _ (c .before .before .before .before .before .before .before .loop-test .taken) (c .before .before .before .before .before .before .before .before .loop .inv .3 .end7) (c .before .before .before .before .before .before .before .before .loop .inv .2) (c .before .before .before .before .before .before .before .before .loop .inv .1) (c .before .before .before .before .before .before .before .before .loop .inv .6) }
+mul-val-8 c = record { fits = at-byte _ _ _ _ _ _ (c .before .before .before .before .before .before .before .loop-test .taken) (c .before .before .before .before .before .before .before .before .loop .inv .3 .7 .end) (c .before .before .before .before .before .before .before .before .loop .inv .2) (c .before .before .before .before .before .before .before .before .loop .inv .1) (c .before .before .before .before .before .before .before .before .loop .inv .6) }
 
 slice-read-val-8 : tie.Need-slice-read-val-8 Inv-loop μ-loop
-slice-read-val-8 c = at-in _ _ _ _ _ _ (c .before .before .before .before .before .before .before .before .loop-test .taken) (c .before .before .before .before .before .before .before .before .before .loop .inv .3 .end7) (c .before .before .before .before .before .before .before .before .before .loop .inv .2) (c .before .before .before .before .before .before .before .before .before .loop .inv .1) (c .before .before .before .before .before .before .before .before .before .loop .inv .6)
+slice-read-val-8 c = at-in _ _ _ _ _ _ (c .before .before .before .before .before .before .before .before .loop-test .taken) (c .before .before .before .before .before .before .before .before .before .loop .inv .3 .7 .end) (c .before .before .before .before .before .before .before .before .before .loop .inv .2) (c .before .before .before .before .before .before .before .before .before .loop .inv .1) (c .before .before .before .before .before .before .before .before .before .loop .inv .6)
 
 add-val-15 : tie.Need-add-val-15 Inv-loop μ-loop
 add-val-15 c = record { fits = parts8 _ _ _ _ _ _ _ _ (sum8 (c .before .before .before .before .before .before .before .before .before .loop .inv .5) (c .before .before .before .before .before .before .before .before .loop-test .taken) (c .before .before .before .before .before .before .before .before .before .loop .inv .3) (c .before .before .before .before .before .before .before .before .before .loop .inv .4) .1) .eight }

@@ -1,6 +1,7 @@
+-- `grid::table::step` meets its contract: the column's run is summed over no more steps than there are, and is small for its place or as
+-- seen. Assumes nothing.
 use native.Mathlib.Omega.{arith}
-use Rattle.tables.proofs.Walls.{span-low, span-high}
-use Rattle.grid.proofs.Turns.{wide-enough, step-empty, run4, run8, pow4, pow8, seen4, seen8}
+use Rattle.grid.proofs.Turns.{wide-enough, first2, first4, first8, step-high, step-empty, run, early, early-2, early-4, early-8, seen}
 use borrow.Author.Needs.{needs}
 use Rattle.grid.proofs.table.step.Statement.{statement}
 use Rattle.grid.proofs.table.step.Tie as tie
@@ -18,7 +19,7 @@ element-copy-out-to : tie.Need-element-copy-out-to
 element-copy-out-to c = omega (arith, c .before .before .pre .0 .end, c .before .before .pre .0 .ready .sizes .ex-le)
 
 returns : tie.Need-returns
-returns c = step-empty (c .before .before .before .before .pre .0) (span-low (c .before .before .before .before .pre .1) (c .before .before .before .before .pre .0 .start) (c .before .before .before .before .pre .0 .end)) (span-high (c .before .before .before .before .pre .1) (c .before .before .before .before .pre .0 .start) (c .before .before .before .before .pre .0 .end)) (c .if1 .taken)
+returns c = let pre = c .before .before .before .before .pre in step-empty (pre .0) (pre .1) (c .if1 .taken)
 
 add-d : tie.Need-add-d
 add-d c = search needs
@@ -33,49 +34,67 @@ mul-d : tie.Need-mul-d
 mul-d c = let h = wide-enough (c .before .before .before .before .before .pre .0) in omega arith
 
 add-d-4 : tie.Need-add-d-4
-add-d-4 c = let h = span-high (c .before .before .before .before .before .before .pre .1) (c .before .before .before .before .before .before .pre .0 .start) (c .before .before .before .before .before .before .pre .0 .end) .under in omega (arith, c .before .before .before .before .before .before .pre .0 .ready .sizes .m-le, c .before .before .before .before .before .before .pre .0 .ready .sizes .ey-le)
+add-d-4 c = let pre = c .before .before .before .before .before .before .pre in omega (arith, step-high (pre .0) (pre .1) .under, pre .0 .ready .sizes .m-le, pre .0 .ready .sizes .ey-le)
 
 add-d-5 : tie.Need-add-d-5
-add-d-5 c = let h = span-high (c .before .before .before .before .before .before .pre .1) (c .before .before .before .before .before .before .pre .0 .start) (c .before .before .before .before .before .before .pre .0 .end) .under in omega (arith, wide-enough (c .before .before .before .before .before .before .pre .0), c .before .before .before .before .before .before .pre .0 .ready .sizes .m-le, c .before .before .before .before .before .before .pre .0 .ready .sizes .ey-le)
+add-d-5 c = let pre = c .before .before .before .before .before .before .pre in omega (arith, wide-enough (pre .0), step-high (pre .0) (pre .1) .under, pre .0 .ready .sizes .m-le, pre .0 .ready .sizes .ey-le)
 
 sub-n : tie.Need-sub-n
 sub-n c = search needs
 
-column4-requires : tie.Need-column4-requires
-column4-requires c κs = run4 (c .before .before .before .before .before .before .before .before .pre .0) (span-low (c .before .before .before .before .before .before .before .before .pre .1) (c .before .before .before .before .before .before .before .before .pre .0 .start) (c .before .before .before .before .before .before .before .before .pre .0 .end)) (span-high (c .before .before .before .before .before .before .before .before .pre .1) (c .before .before .before .before .before .before .before .before .pre .0 .start) (c .before .before .before .before .before .before .before .before .pre .0 .end)) (c .before .before .before .before .if1 .left) (c .before .if2 .taken)
+column2-requires : tie.Need-column2-requires
+column2-requires c κs = let pre = c .before .before .before .before .before .before .before .before .before .pre in run (pre .0) (pre .1) (c .before .before .before .before .before .if1 .left) (first2 (pre .0) (c .before .if2 .taken))
 
 same-length : tie.Need-same-length
 same-length c = search needs
 
 returns-2 : tie.Need-returns-2
-returns-2 c = pow4 (c .before .before .before .before .before .before .before .before .before .before .before .before .pre .0) (span-low (c .before .before .before .before .before .before .before .before .before .before .before .before .pre .1) (c .before .before .before .before .before .before .before .before .before .before .before .before .pre .0 .start) (c .before .before .before .before .before .before .before .before .before .before .before .before .pre .0 .end)) (span-high (c .before .before .before .before .before .before .before .before .before .before .before .before .pre .1) (c .before .before .before .before .before .before .before .before .before .before .before .before .pre .0 .start) (c .before .before .before .before .before .before .before .before .before .before .before .before .pre .0 .end)) (c .before .before .before .before .before .before .before .before .if1 .left) (c .before .before .before .before .before .if2 .taken) (c .before .before .before .column4 .ensures) (c .if3 .taken)
+returns-2 c = let pre = c .before .before .before .before .before .before .before .before .before .before .before .before .before .pre in early (pre .0) (pre .1) (c .before .before .before .before .before .before .before .before .before .if1 .left) (first2 (pre .0) (c .before .before .before .before .before .if2 .taken)) (c .before .before .before .column2 .ensures) early-2 (c .if3 .taken)
 
 is-small-requires : tie.Need-is-small-requires
-is-small-requires c κs = omega (arith, run4 (c .before .before .before .before .before .before .before .before .before .before .before .before .before .pre .0) (span-low (c .before .before .before .before .before .before .before .before .before .before .before .before .before .pre .1) (c .before .before .before .before .before .before .before .before .before .before .before .before .before .pre .0 .start) (c .before .before .before .before .before .before .before .before .before .before .before .before .before .pre .0 .end)) (span-high (c .before .before .before .before .before .before .before .before .before .before .before .before .before .pre .1) (c .before .before .before .before .before .before .before .before .before .before .before .before .before .pre .0 .start) (c .before .before .before .before .before .before .before .before .before .before .before .before .before .pre .0 .end)) (c .before .before .before .before .before .before .before .before .before .if1 .left) (c .before .before .before .before .before .before .if2 .taken) .inside)
+is-small-requires c κs = let pre = c .before .before .before .before .before .before .before .before .before .before .before .before .before .before .pre in omega (arith, run (pre .0) (pre .1) (c .before .before .before .before .before .before .before .before .before .before .if1 .left) (first2 (pre .0) (c .before .before .before .before .before .before .if2 .taken)) .inside)
 
 same-length-2 : tie.Need-same-length-2
 same-length-2 c = search needs
 
 returns-3 : tie.Need-returns-3
-returns-3 c = seen4 (c .before .before .before .before .before .before .before .before .before .before .before .before .before .before .pre .0) (span-low (c .before .before .before .before .before .before .before .before .before .before .before .before .before .before .pre .1) (c .before .before .before .before .before .before .before .before .before .before .before .before .before .before .pre .0 .start) (c .before .before .before .before .before .before .before .before .before .before .before .before .before .before .pre .0 .end)) (span-high (c .before .before .before .before .before .before .before .before .before .before .before .before .before .before .pre .1) (c .before .before .before .before .before .before .before .before .before .before .before .before .before .before .pre .0 .start) (c .before .before .before .before .before .before .before .before .before .before .before .before .before .before .pre .0 .end)) (c .before .before .before .before .before .before .before .before .before .before .if1 .left) (c .before .before .before .before .before .before .before .if2 .taken) (c .before .before .before .before .before .column4 .ensures) _ (c .is-small .ensures)
+returns-3 c = let pre = c .before .before .before .before .before .before .before .before .before .before .before .before .before .before .before .pre in seen (pre .0) (pre .1) (c .before .before .before .before .before .before .before .before .before .before .before .if1 .left) (first2 (pre .0) (c .before .before .before .before .before .before .before .if2 .taken)) (c .before .before .before .before .before .column2 .ensures) _ (c .is-small .ensures)
 
-column8-requires : tie.Need-column8-requires
-column8-requires c κs = run8 (c .before .before .before .before .before .before .before .before .pre .0) (span-low (c .before .before .before .before .before .before .before .before .pre .1) (c .before .before .before .before .before .before .before .before .pre .0 .start) (c .before .before .before .before .before .before .before .before .pre .0 .end)) (span-high (c .before .before .before .before .before .before .before .before .pre .1) (c .before .before .before .before .before .before .before .before .pre .0 .start) (c .before .before .before .before .before .before .before .before .pre .0 .end)) (c .before .before .before .before .if1 .left)
+column4-requires : tie.Need-column4-requires
+column4-requires c κs = let pre = c .before .before .before .before .before .before .before .before .before .before .pre in run (pre .0) (pre .1) (c .before .before .before .before .before .before .if1 .left) (first4 (pre .0) (c .before .if4 .taken))
 
 same-length-3 : tie.Need-same-length-3
 same-length-3 c = search needs
 
 returns-4 : tie.Need-returns-4
-returns-4 c = pow8 (c .before .before .before .before .before .before .before .before .before .before .before .before .pre .0) (span-low (c .before .before .before .before .before .before .before .before .before .before .before .before .pre .1) (c .before .before .before .before .before .before .before .before .before .before .before .before .pre .0 .start) (c .before .before .before .before .before .before .before .before .before .before .before .before .pre .0 .end)) (span-high (c .before .before .before .before .before .before .before .before .before .before .before .before .pre .1) (c .before .before .before .before .before .before .before .before .before .before .before .before .pre .0 .start) (c .before .before .before .before .before .before .before .before .before .before .before .before .pre .0 .end)) (c .before .before .before .before .before .before .before .before .if1 .left) (c .before .before .before .column8 .ensures) (c .if4 .taken)
+returns-4 c = let pre = c .before .before .before .before .before .before .before .before .before .before .before .before .before .before .pre in early (pre .0) (pre .1) (c .before .before .before .before .before .before .before .before .before .before .if1 .left) (first4 (pre .0) (c .before .before .before .before .before .if4 .taken)) (c .before .before .before .column4 .ensures) early-4 (c .if5 .taken)
 
 is-small-requires-2 : tie.Need-is-small-requires-2
-is-small-requires-2 c κs = omega (arith, run8 (c .before .before .before .before .before .before .before .before .before .before .before .before .before .pre .0) (span-low (c .before .before .before .before .before .before .before .before .before .before .before .before .before .pre .1) (c .before .before .before .before .before .before .before .before .before .before .before .before .before .pre .0 .start) (c .before .before .before .before .before .before .before .before .before .before .before .before .before .pre .0 .end)) (span-high (c .before .before .before .before .before .before .before .before .before .before .before .before .before .pre .1) (c .before .before .before .before .before .before .before .before .before .before .before .before .before .pre .0 .start) (c .before .before .before .before .before .before .before .before .before .before .before .before .before .pre .0 .end)) (c .before .before .before .before .before .before .before .before .before .if1 .left) .inside)
+is-small-requires-2 c κs = let pre = c .before .before .before .before .before .before .before .before .before .before .before .before .before .before .before .pre in omega (arith, run (pre .0) (pre .1) (c .before .before .before .before .before .before .before .before .before .before .before .if1 .left) (first4 (pre .0) (c .before .before .before .before .before .before .if4 .taken)) .inside)
 
 same-length-4 : tie.Need-same-length-4
 same-length-4 c = search needs
 
 returns-5 : tie.Need-returns-5
-returns-5 c = seen8 (c .before .before .before .before .before .before .before .before .before .before .before .before .before .before .pre .0) (span-low (c .before .before .before .before .before .before .before .before .before .before .before .before .before .before .pre .1) (c .before .before .before .before .before .before .before .before .before .before .before .before .before .before .pre .0 .start) (c .before .before .before .before .before .before .before .before .before .before .before .before .before .before .pre .0 .end)) (span-high (c .before .before .before .before .before .before .before .before .before .before .before .before .before .before .pre .1) (c .before .before .before .before .before .before .before .before .before .before .before .before .before .before .pre .0 .start) (c .before .before .before .before .before .before .before .before .before .before .before .before .before .before .pre .0 .end)) (c .before .before .before .before .before .before .before .before .before .before .if1 .left) (c .before .before .before .before .before .column8 .ensures) _ (c .is-small2 .ensures)
+returns-5 c = let pre = c .before .before .before .before .before .before .before .before .before .before .before .before .before .before .before .before .pre in seen (pre .0) (pre .1) (c .before .before .before .before .before .before .before .before .before .before .before .before .if1 .left) (first4 (pre .0) (c .before .before .before .before .before .before .before .if4 .taken)) (c .before .before .before .before .before .column4 .ensures) _ (c .is-small2 .ensures)
+
+column8-requires : tie.Need-column8-requires
+column8-requires c κs = let pre = c .before .before .before .before .before .before .before .before .before .before .pre in run (pre .0) (pre .1) (c .before .before .before .before .before .before .if1 .left) (first8 (pre .0))
+
+same-length-5 : tie.Need-same-length-5
+same-length-5 c = search needs
+
+returns-6 : tie.Need-returns-6
+returns-6 c = let pre = c .before .before .before .before .before .before .before .before .before .before .before .before .before .before .pre in early (pre .0) (pre .1) (c .before .before .before .before .before .before .before .before .before .before .if1 .left) (first8 (pre .0)) (c .before .before .before .column8 .ensures) early-8 (c .if6 .taken)
+
+is-small-requires-3 : tie.Need-is-small-requires-3
+is-small-requires-3 c κs = let pre = c .before .before .before .before .before .before .before .before .before .before .before .before .before .before .before .pre in omega (arith, run (pre .0) (pre .1) (c .before .before .before .before .before .before .before .before .before .before .before .if1 .left) (first8 (pre .0)) .inside)
+
+same-length-6 : tie.Need-same-length-6
+same-length-6 c = search needs
+
+returns-7 : tie.Need-returns-7
+returns-7 c = let pre = c .before .before .before .before .before .before .before .before .before .before .before .before .before .before .before .before .pre in seen (pre .0) (pre .1) (c .before .before .before .before .before .before .before .before .before .before .before .before .if1 .left) (first8 (pre .0)) (c .before .before .before .before .before .column8 .ensures) _ (c .is-small3 .ensures)
 
 pub step-spec : {M : Type 1} → statement M
 step-spec =
@@ -93,15 +112,21 @@ step-spec =
     add-d-4
     add-d-5
     sub-n
-    column4-requires
+    column2-requires
     same-length
     returns-2
     is-small-requires
     same-length-2
     returns-3
-    column8-requires
+    column4-requires
     same-length-3
     returns-4
     is-small-requires-2
     same-length-4
-    returns-5)
+    returns-5
+    column8-requires
+    same-length-5
+    returns-6
+    is-small-requires-3
+    same-length-6
+    returns-7)
