@@ -85,7 +85,7 @@ pub(crate) fn height(mirrored: bool, y: usize, level: usize) -> usize
     y - level
 }
 
-// The same of each of the first k steps, from the slope d.
+// The same of each of the first k steps, from the slope d; in eight turns, which the compiler unrolls.
 pub(crate) fn heights(
     mirrored: bool,
     d: usize,
@@ -98,9 +98,11 @@ pub(crate) fn heights(
 {
     let mut up = [0usize; 8];
     let mut i = 0;
-    while i < k {
-        let level = d * sa[i];
-        up[i] = height(mirrored, sc[i], level);
+    while i < 8 {
+        if i < k {
+            let level = d * sa[i];
+            up[i] = height(mirrored, sc[i], level);
+        }
         i += 1;
     }
     up

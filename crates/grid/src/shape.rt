@@ -17,7 +17,8 @@ fn wide(x: u8) -> usize
     x as usize
 }
 
-// The job's own heights; f is the fence's slope. An end below -3n can't be reached.
+// The job's own heights; f is the fence's slope. An end below -3n can't be reached. The loop has eight turns whatever k is: so the compiler
+// unrolls it and keeps the steps in registers, where as bytes written and read back they would wait for each other.
 fn own_shape(job: Job, f: usize) -> Shape
     requires { ⌜ Ranged job × (f ≤ 3) ⌝ }
     ensures { λ r. ⌜ Laid job f r ⌝ }
@@ -30,10 +31,12 @@ fn own_shape(job: Job, f: usize) -> Shape
     let mut sa = [100usize; 8];
     let mut sc = [0usize; 8];
     let mut i: usize = 0;
-    while i < k {
-        let x = wide(a[i]);
-        sa[i] = x;
-        sc[i] = wide(b[i]) + 3 * x - 128;
+    while i < 8 {
+        if i < k {
+            let x = wide(a[i]);
+            sa[i] = x;
+            sc[i] = wide(b[i]) + 3 * x - 128;
+        }
         i += 1;
     }
     if up < 128 {

@@ -1,13 +1,14 @@
 -- Laws of lower heights: slopes and heights over one step more, and what a shape in lower heights shows. Assumes nothing.
 --
 --   product                                 a bound of a product
+--   Until, until-none, until-more, until-idle, until-all    a loop of which only the first k turns do something
 --   slope-low, slope-high                   a step's slope, by which number of columns it has
 --   bounds-none, bounds-low, bounds-high, bounds-at    a slope that bounds the first steps, one step more, all steps
---   heights-none, heights-more, heights-at  the heights of the first steps, of one more, of all
+--   heights-none, heights-more              the heights of the first steps, and of one more
 --   view-lowered                            a shape slid down or mirrored shows what it did
 --   shows-same, beyond-same                 two grids with the same steps are shown alike, and have the same ends out of reach
 --   beyond-barren                           nothing leads to such an end
-use mathlib.Core.Path.{_≡_, refl, ap, _∙_}
+use mathlib.Core.Path.{_≡_, refl, ap, _∙_, subst}
 use mathlib.Core.Bool.{Bool, true, false}
 use mathlib.Core.List.{List}
 use Prim.Native.Nat.{ℕ, _+_, _*_, _-_, _≤_, _<_}
@@ -31,6 +32,25 @@ use Rattle.tables.specs.declared.Shape.{Shape}
 
 pub product : (a b c d n : ℕ) → a ≤ c → b ≤ d → c * d ≤ n → a * b ≤ n
 product a b c d n l h e = le-trans (mul-le-mul l h) e
+
+-- ---- loops
+
+-- P holds of the turns that did something, i of them or k
+pub record Until (P : ℕ → Type 0) (k i : ℕ) : Type 0 where
+  pub so-far : i ≤ k → P i
+  pub done : k ≤ i → P k
+
+pub until-none : {P : ℕ → Type 0} {k : ℕ} → P 0 → Until P k 0
+until-none {P} {k} q = record { so-far = λ _. q; done = λ h. let e : 0 ≡ k = omega arith in subst P e q }
+
+pub until-more : {P : ℕ → Type 0} {k i : ℕ} → i < k → P (i + 1) → Until P k (i + 1)
+until-more {P} {k} {i} l q = record { so-far = λ _. q; done = λ h. let e : i + 1 ≡ k = omega arith in subst P e q }
+
+pub until-idle : {P : ℕ → Type 0} {k i : ℕ} → k ≤ i → Until P k i → Until P k (i + 1)
+until-idle l u = record { so-far = λ h. absurd (omega arith); done = λ _. u .done l }
+
+pub until-all : {P : ℕ → Type 0} {k i : ℕ} → Until P k i → k ≤ 8 → 8 ≤ i → P k
+until-all u l h = u .done (omega arith)
 
 -- ---- slopes
 
@@ -82,9 +102,6 @@ module _ (t : Bool) (d : ℕ) (sa sc up : List ℕ) (i y : ℕ) (w : Heights t d
       at : (j : ℕ) → j < i + 1 → Dec (j ≡ i) → Height t (getD sc j 0) (d * getD sa j 0) (getD (set up i y) j 0)
       at j h (yes q) = rw (q, getD-set-same up i y 0 (omega (arith, w .eight))) e
       at j h (no f) = rw (getD-set-other up i j y 0 f) (w .each j (omega arith))
-
-pub heights-at : {t : Bool} {d i k : ℕ} {sa sc up : List ℕ} → Heights t d sa sc up i → i ≡ k → Heights t d sa sc up k
-heights-at w e = rw e at w
 
 -- ---- a shape slid down or mirrored
 
