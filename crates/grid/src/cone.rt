@@ -1,6 +1,6 @@
 // The heights of a column that matter: behind the wall, and such that the end can still be reached.
 ghost use mathlib.Core.Path.{_≡_};
-ghost use Prim.Native.Nat.{_+_, _≤_, _<_};
+ghost use Prim.Native.Nat.{_+_, _*_, _≤_, _<_};
 ghost use lib.ListN.{length};
 ghost use Rattle.tables.specs.Form.{wall};
 ghost use Rattle.tables.specs.Table.{Fence, From, Roof, To, Spans};
@@ -39,12 +39,26 @@ pub(crate) fn stays(f: usize, x: usize, y: usize) -> bool
     y <= roof_at(f, x, y)
 }
 
+// A sixth of hi * x, rounded down. Where hi is a multiple of six, as it is if the steepest step goes one column, a loop over x adds and never
+// divides.
+fn reach_of(hi: usize, x: usize) -> usize
+    requires { ⌜ (hi ≤ 1000) × (x ≤ 97) ⌝ }
+    ensures { λ r. ⌜ (6 * r ≤ hi * x) × (hi * x < 6 * r + 6) ⌝ }
+{
+    let slope = hi / 6;
+    if slope * 6 == hi {
+        slope * x
+    } else {
+        hi * x / 6
+    }
+}
+
 // The lowest height of column x that matters.
 pub(crate) fn from_at(f: usize, hi: usize, ex: usize, ey: usize, x: usize) -> usize
     requires { ⌜ (f ≤ 100) × (hi ≤ 1000) × (ex ≤ 97) × (ey ≤ 1000) × (x ≤ ex) ⌝ }
     ensures { λ r. ⌜ From f hi ex ey x r ⌝ }
 {
-    let reach = hi * (ex - x) / 6;
+    let reach = reach_of(hi, ex - x);
     let fence = fence_at(f, x);
     if ey <= fence + reach {
         return fence;
@@ -57,7 +71,7 @@ pub(crate) fn to_at(f: usize, hi: usize, ey: usize, x: usize) -> usize
     requires { ⌜ (f ≤ 100) × (hi ≤ 1000) × (ey ≤ 1000) × (x ≤ 97) ⌝ }
     ensures { λ r. ⌜ To f hi ey x r ⌝ }
 {
-    let reach = roof_at(f, x, hi * x / 6);
+    let reach = roof_at(f, x, reach_of(hi, x));
     if reach < ey { reach + 1 } else { ey + 1 }
 }
 

@@ -7,6 +7,7 @@
 --   wall-start               every wall lets a walk begin
 --   wall-slid, wall-mirrored a fence in lower heights, and in mirrored ones; wall-free: no wall in either
 --   fence-low, fence-free, roof-free, roof-low, roof-high    what `fence_at` and `roof_at` find
+--   sixth-of                 what `reach_of` finds
 --   from-fence, from-end, to-reach, to-end                   what `from_at` and `to_at` find
 --   spans-none, spans-more, spans-all    what `spans` has before its loop, after a turn of it, and at its end; span-low, span-high: what it finds of a column
 --   stays-not, stays-by      what `stays` finds
@@ -16,7 +17,7 @@ use mathlib.Core.Bool.{Bool, true, false}
 use mathlib.Core.List.{List}
 use Prim.Native.Nat.{ℕ, _+_, _*_, _-_, _≤_, _<_}
 use native.Mathlib.Decide.{decLe, decLt}
-use native.Mathlib.Nat.{add-mul}
+use native.Mathlib.Nat.{add-mul, mul-comm, mul-assoc}
 use native.Mathlib.Omega.{arith}
 use lib.Dec.{T, leb, leb→le}
 use lib.ListN.{length, getD, set}
@@ -121,6 +122,9 @@ module _ {f x y low : ℕ} (w : Fence f x low) where
         | yes h ↦ le-leb y high h ∙ sym (is-true (wall f x y) (wall-between f x y (λ k. omega (arith, w .inside k)) (λ k. omega (arith, r .inside k))))
         | no h ↦ lt-leb y high (omega arith) ∙ sym (is-false (wall f x y) (λ t. omega (arith, r .beyond y (omega arith) t)))
       ]
+
+pub sixth-of : (hi slope x : ℕ) → slope * 6 ≡ hi → hi * x ≡ 6 * (slope * x)
+sixth-of hi slope x e = rw (← e) (ap (λ (z : ℕ). z * x) (mul-comm slope 6) ∙ mul-assoc 6 slope x)
 
 module _ {f hi ex ey x fence : ℕ} (w : Fence f x fence) (reach : ℕ) (l : 6 * reach ≤ hi * (ex - x)) where
   pub from-fence : ey ≤ fence + reach → From f hi ex ey x fence

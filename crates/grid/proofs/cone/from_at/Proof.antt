@@ -7,29 +7,31 @@ use borrow.Author.Needs.{needs}
 use Rattle.grid.proofs.cone.from_at.Statement.{statement}
 use Rattle.grid.proofs.cone.from_at.Tie as tie
 
-sub-reach : tie.Need-sub-reach
-sub-reach c = search needs
+sub-reach-of : tie.Need-sub-reach-of
+sub-reach-of c = search needs
 
-mul-reach : tie.Need-mul-reach
-mul-reach c = let h = mul-bound (c .args .hi) (c .args .ex - c .args .x) 1000 97 (omega arith) (omega arith) in omega arith
+reach-of-requires : tie.Need-reach-of-requires
+reach-of-requires c κs = search needs
 
 fence-at-requires : tie.Need-fence-at-requires
 fence-at-requires c κs = search needs
 
 add-if1 : tie.Need-add-if1
 add-if1 c =
-    let h = mul-bound (c .before .args .f) (c .before .args .x) 100 97 (omega arith) (omega arith) in
-    let g = mul-bound (c .before .args .hi) (c .before .args .ex - c .before .args .x) 1000 97 (omega arith) (omega arith) in
-    omega (arith, c .fence-at .ensures .most)
+    let h = mul-bound (c .before .before .args .f) (c .before .before .args .x) 100 97 (omega arith) (omega arith) in
+    let g = mul-bound (c .before .before .args .hi) (c .before .before .args .ex - c .before .before .args .x) 1000 97 (omega arith) (omega arith) in
+    omega (arith, c .fence-at .ensures .most, c .before .reach-of .ensures .0)
 
 returns : tie.Need-returns
-returns c = from-fence (c .before .fence-at .ensures) _ (omega arith) (c .if1 .taken)
+returns c = from-fence (c .before .fence-at .ensures) _ (c .before .before .reach-of .ensures .0) (c .if1 .taken)
 
 sub-result : tie.Need-sub-result
 sub-result c = search needs
 
 returns-2 : tie.Need-returns-2
-returns-2 c = from-end (c .before .fence-at .ensures) _ (omega arith) (omega arith) (omega arith)
+returns-2 c = from-end (c .before .fence-at .ensures) _ (c .before .before .reach-of .ensures .0) (c .before .before .reach-of .ensures .1) (omega arith)
 
 pub from-at-spec : {M : Type 1} → statement M
-from-at-spec = tie.close (tie.spec sub-reach mul-reach fence-at-requires add-if1 returns sub-result returns-2)
+from-at-spec =
+    tie.close
+    (tie.spec sub-reach-of reach-of-requires fence-at-requires add-if1 returns sub-result returns-2)
