@@ -1,4 +1,4 @@
-// The count of families 6 and 7, in a table of the smallest of four sizes that has room: clearing the largest takes as long as filling a
+// The count of families 6 and 7, in a table of the smallest of five sizes that has room: clearing the largest takes as long as filling a
 // small one.
 ghost use mathlib.Core.Path.{_≡_};
 ghost use Rattle.tables.specs.Plans.{Planned, PreparedFor, countFor};
@@ -7,6 +7,14 @@ use crate::plan::offsets;
 use crate::table::fill;
 use tables::Answer;
 use tables::Plan;
+
+fn count_128(sa: &[usize; 8], sc: &[usize; 8], off: &[usize; 8], p: Plan) -> Answer
+    requires { ⌜ PreparedFor p (now sa) (now sc) (now off) 128 ⌝ }
+    ensures { λ r. ⌜ r ≡ countFor p (now (sa .entry)) (now (sc .entry)) ⌝ }
+{
+    let mut val = [0u64; 128];
+    fill(&mut val, sa, sc, off, p)
+}
 
 fn count_384(sa: &[usize; 8], sc: &[usize; 8], off: &[usize; 8], p: Plan) -> Answer
     requires { ⌜ PreparedFor p (now sa) (now sc) (now off) 384 ⌝ }
@@ -47,6 +55,9 @@ pub(crate) fn count(sa: &[usize; 8], sc: &[usize; 8], p: Plan) -> Answer
 {
     let off = offsets(sa, sc, p);
     let cells = cells_of(p);
+    if cells <= 128 {
+        return count_128(sa, sc, &off, p);
+    }
     if cells <= 384 {
         return count_384(sa, sc, &off, p);
     }

@@ -30,6 +30,14 @@ fn number_in(
     read(val, sa, sc, off, p, edge)
 }
 
+fn number_128(sa: &[usize; 8], sc: &[usize; 8], off: &[usize; 8], p: Plan, edge: &[u8]) -> Numbered
+    requires { ⌜ PreparedFor p (now sa) (now sc) (now off) 128 ⌝ }
+    ensures { λ r. ⌜ numberSays r ≡ reply (numberFor false p (now (sa .entry)) (now (sc .entry)) (now (edge .entry))) ⌝ }
+{
+    let mut val = [0u64; 128];
+    number_in(&mut val, sa, sc, off, p, edge)
+}
+
 fn number_384(sa: &[usize; 8], sc: &[usize; 8], off: &[usize; 8], p: Plan, edge: &[u8]) -> Numbered
     requires { ⌜ PreparedFor p (now sa) (now sc) (now off) 384 ⌝ }
     ensures { λ r. ⌜ numberSays r ≡ reply (numberFor false p (now (sa .entry)) (now (sc .entry)) (now (edge .entry))) ⌝ }
@@ -62,13 +70,16 @@ fn number_3712(sa: &[usize; 8], sc: &[usize; 8], off: &[usize; 8], p: Plan, edge
     number_in(&mut val, sa, sc, off, p, edge)
 }
 
-// The number of the edge, in a table of the smallest of four sizes that has room.
+// The number of the edge, in a table of the smallest of five sizes that has room.
 pub(crate) fn number(sa: &[usize; 8], sc: &[usize; 8], p: Plan, edge: &[u8]) -> Numbered
     requires { ⌜ Planned (now sa) (now sc) p ⌝ }
     ensures { λ r. ⌜ numberSays r ≡ reply (numberFor false p (now (sa .entry)) (now (sc .entry)) (now (edge .entry))) ⌝ }
 {
     let off = offsets(sa, sc, p);
     let cells = cells_of(p);
+    if cells <= 128 {
+        return number_128(sa, sc, &off, p, edge);
+    }
     if cells <= 384 {
         return number_384(sa, sc, &off, p, edge);
     }

@@ -83,6 +83,22 @@ fn spell_in(
     Built::Length(spell_all(val, sa, sc, off, p, numbers, steps, ends))
 }
 
+fn spell_128(
+    sa: &[usize; 8],
+    sc: &[usize; 8],
+    off: &[usize; 8],
+    p: Plan,
+    numbers: &[u64],
+    steps: &mut [u8],
+    ends: &mut [usize],
+) -> Built
+    requires { ⌜ PreparedFor p (now sa) (now sc) (now off) 128 × RoomFor (now numbers) (now steps) (now ends) ⌝ }
+    ensures { λ r. ⌜ BuildsFor false p (now (sa .entry)) (now (sc .entry)) (now (numbers .entry)) (now (steps .entry)) (now (ends .entry)) (now (steps .exit)) (now (ends .exit)) r ⌝ }
+{
+    let mut val = [0u64; 128];
+    spell_in(&mut val, sa, sc, off, p, numbers, steps, ends)
+}
+
 fn spell_384(
     sa: &[usize; 8],
     sc: &[usize; 8],
@@ -147,7 +163,7 @@ fn spell_3712(
     spell_in(&mut val, sa, sc, off, p, numbers, steps, ends)
 }
 
-// The edges, over a table of the smallest of four sizes that has room.
+// The edges, over a table of the smallest of five sizes that has room.
 pub(crate) fn spell_edges(
     sa: &[usize; 8],
     sc: &[usize; 8],
@@ -161,6 +177,9 @@ pub(crate) fn spell_edges(
 {
     let off = offsets(sa, sc, p);
     let cells = cells_of(p);
+    if cells <= 128 {
+        return spell_128(sa, sc, &off, p, numbers, steps, ends);
+    }
     if cells <= 384 {
         return spell_384(sa, sc, &off, p, numbers, steps, ends);
     }

@@ -1,0 +1,17 @@
+-- `grid::counting::count_128` meets its contract: a blank table of this size is lent. Assumes nothing.
+use Rattle.job.proofs.Puts.{zeros-at}
+use borrow.Author.Needs.{needs}
+use Rattle.grid.proofs.counting.count_128.Statement.{statement}
+use Rattle.grid.proofs.counting.count_128.Tie as tie
+
+slice-aggregate-fill : tie.Need-slice-aggregate-fill
+slice-aggregate-fill c = search needs
+
+fill-requires : tie.Need-fill-requires
+fill-requires c κs = record { ready = c .before .pre; zero-at = zeros-at 128 }
+
+returns : tie.Need-returns
+returns c = search needs
+
+pub count-128-spec : {M : Type 1} → statement M
+count-128-spec = tie.close (tie.spec slice-aggregate-fill fill-requires returns)

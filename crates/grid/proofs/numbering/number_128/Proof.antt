@@ -1,0 +1,17 @@
+-- `grid::numbering::number_128` meets its contract: a blank table of this size is lent. Assumes nothing.
+use Rattle.job.proofs.Puts.{zeros-at}
+use borrow.Author.Needs.{needs}
+use Rattle.grid.proofs.numbering.number_128.Statement.{statement}
+use Rattle.grid.proofs.numbering.number_128.Tie as tie
+
+slice-aggregate-number-in : tie.Need-slice-aggregate-number-in
+slice-aggregate-number-in c = search needs
+
+number-in-requires : tie.Need-number-in-requires
+number-in-requires c κs = record { ready = c .before .before .pre; zero-at = zeros-at 128 }
+
+returns : tie.Need-returns
+returns c = search needs
+
+pub number-128-spec : {M : Type 1} → statement M
+number-128-spec = tie.close (tie.spec slice-aggregate-number-in number-in-requires returns)

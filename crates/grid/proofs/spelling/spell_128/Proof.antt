@@ -1,0 +1,25 @@
+-- `grid::spelling::spell_128` meets its contract: a blank table of this size is lent. Assumes nothing.
+use Rattle.job.proofs.Puts.{zeros-at}
+use borrow.Author.Needs.{needs}
+use Rattle.grid.proofs.spelling.spell_128.Statement.{statement}
+use Rattle.grid.proofs.spelling.spell_128.Tie as tie
+
+slice-aggregate-spell-in : tie.Need-slice-aggregate-spell-in
+slice-aggregate-spell-in c = search needs
+
+spell-in-requires : tie.Need-spell-in-requires
+spell-in-requires c κs = (record { ready = c .before .before .before .before .before .before .pre .0; zero-at = zeros-at 128 }, c .before .before .before .before .before .before .pre .1)
+
+same-length : tie.Need-same-length
+same-length c = search needs
+
+same-length-2 : tie.Need-same-length-2
+same-length-2 c = search needs
+
+returns : tie.Need-returns
+returns c = search needs
+
+pub spell-128-spec : {M : Type 1} → statement M
+spell-128-spec =
+    tie.close
+    (tie.spec slice-aggregate-spell-in spell-in-requires same-length same-length-2 returns)
