@@ -71,8 +71,8 @@ module _ {p : Plan} {sa sc off : List ℕ} {val : List ℕ} {x : ℕ} (b : Befor
         summed : TableFor p sa sc val′ (x + 1)
         summed = column-table (b .ready .slopes) (b .ready .offs) val (b .table) (b .start) (b .end) (getD starts x 0) (getD stops x 0) step-low step-high n (fi .some) (fi .most) (fi .gone) lt val′ co
 
-        pub early : {top : ℕ} → n ^ top ≤ 2305843009213693951 → x ≤ top → After p sa sc val′ x true
-        early {top} le l = record {
+        pub early : (top : ℕ) → n ^ top ≤ 2305843009213693951 → x ≤ top → After p sa sc val′ x true
+        early top le l = record {
           table = summed;
           small = λ _. pow-small (b .ready .slopes) (b .ready .offs) val (b .table) (b .start) (b .end) n (fi .some) (fi .most) (fi .gone) top le l (b .small);
         }

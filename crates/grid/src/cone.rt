@@ -77,14 +77,14 @@ pub(crate) fn to_at(f: usize, hi: usize, ey: usize, x: usize) -> usize
 
 // The bounds of the columns 1 to ex, worked out once: from a formula the compiler would work them out anew for each of its tests.
 pub(crate) fn spans(
-    starts: &mut [usize; 98],
-    stops: &mut [usize; 98],
+    starts: &mut [usize; 33],
+    stops: &mut [usize; 33],
     f: usize,
     hi: usize,
     ex: usize,
     ey: usize,
 )
-    requires { ⌜ (f ≤ 100) × (hi ≤ 1000) × (ex ≤ 97) × (ey ≤ 1000) ⌝ }
+    requires { ⌜ (f ≤ 100) × (hi ≤ 1000) × (ex ≤ 32) × (ey ≤ 1000) ⌝ }
     requires { ⌜ (ex < length (now starts)) × (ex < length (now stops)) ⌝ }
     ensures { λ _. ⌜ Spans f hi ex ey (now (starts .exit)) (now (stops .exit)) (ex + 1) ⌝ }
 {

@@ -1,7 +1,7 @@
 // The count of families 6 and 7, in a table of the smallest of five sizes that has room: clearing the largest takes as long as filling a
 // small one.
 ghost use mathlib.Core.Path.{_≡_};
-ghost use Rattle.tables.specs.Plans.{Planned, PreparedFor, countFor};
+ghost use Rattle.tables.specs.Plans.{Narrow, Planned, PreparedFor, countFor};
 use crate::plan::cells_of;
 use crate::plan::offsets;
 use crate::table::fill;
@@ -9,7 +9,7 @@ use tables::Answer;
 use tables::Plan;
 
 fn count_128(sa: &[usize; 8], sc: &[usize; 8], off: &[usize; 8], p: Plan) -> Answer
-    requires { ⌜ PreparedFor p (now sa) (now sc) (now off) 128 ⌝ }
+    requires { ⌜ PreparedFor p (now sa) (now sc) (now off) 128 × Narrow p ⌝ }
     ensures { λ r. ⌜ r ≡ countFor p (now (sa .entry)) (now (sc .entry)) ⌝ }
 {
     let mut val = [0u64; 128];
@@ -17,7 +17,7 @@ fn count_128(sa: &[usize; 8], sc: &[usize; 8], off: &[usize; 8], p: Plan) -> Ans
 }
 
 fn count_384(sa: &[usize; 8], sc: &[usize; 8], off: &[usize; 8], p: Plan) -> Answer
-    requires { ⌜ PreparedFor p (now sa) (now sc) (now off) 384 ⌝ }
+    requires { ⌜ PreparedFor p (now sa) (now sc) (now off) 384 × Narrow p ⌝ }
     ensures { λ r. ⌜ r ≡ countFor p (now (sa .entry)) (now (sc .entry)) ⌝ }
 {
     let mut val = [0u64; 384];
@@ -25,7 +25,7 @@ fn count_384(sa: &[usize; 8], sc: &[usize; 8], off: &[usize; 8], p: Plan) -> Ans
 }
 
 fn count_1280(sa: &[usize; 8], sc: &[usize; 8], off: &[usize; 8], p: Plan) -> Answer
-    requires { ⌜ PreparedFor p (now sa) (now sc) (now off) 1280 ⌝ }
+    requires { ⌜ PreparedFor p (now sa) (now sc) (now off) 1280 × Narrow p ⌝ }
     ensures { λ r. ⌜ r ≡ countFor p (now (sa .entry)) (now (sc .entry)) ⌝ }
 {
     let mut val = [0u64; 1280];
@@ -33,7 +33,7 @@ fn count_1280(sa: &[usize; 8], sc: &[usize; 8], off: &[usize; 8], p: Plan) -> An
 }
 
 fn count_2496(sa: &[usize; 8], sc: &[usize; 8], off: &[usize; 8], p: Plan) -> Answer
-    requires { ⌜ PreparedFor p (now sa) (now sc) (now off) 2496 ⌝ }
+    requires { ⌜ PreparedFor p (now sa) (now sc) (now off) 2496 × Narrow p ⌝ }
     ensures { λ r. ⌜ r ≡ countFor p (now (sa .entry)) (now (sc .entry)) ⌝ }
 {
     let mut val = [0u64; 2496];
@@ -41,7 +41,7 @@ fn count_2496(sa: &[usize; 8], sc: &[usize; 8], off: &[usize; 8], p: Plan) -> An
 }
 
 fn count_3712(sa: &[usize; 8], sc: &[usize; 8], off: &[usize; 8], p: Plan) -> Answer
-    requires { ⌜ PreparedFor p (now sa) (now sc) (now off) 3712 ⌝ }
+    requires { ⌜ PreparedFor p (now sa) (now sc) (now off) 3712 × Narrow p ⌝ }
     ensures { λ r. ⌜ r ≡ countFor p (now (sa .entry)) (now (sc .entry)) ⌝ }
 {
     let mut val = [0u64; 3712];
@@ -50,7 +50,7 @@ fn count_3712(sa: &[usize; 8], sc: &[usize; 8], off: &[usize; 8], p: Plan) -> An
 
 // How many walks lead to the plan's end.
 pub(crate) fn count(sa: &[usize; 8], sc: &[usize; 8], p: Plan) -> Answer
-    requires { ⌜ Planned (now sa) (now sc) p ⌝ }
+    requires { ⌜ Planned (now sa) (now sc) p × Narrow p ⌝ }
     ensures { λ r. ⌜ r ≡ countFor p (now (sa .entry)) (now (sc .entry)) ⌝ }
 {
     let off = offsets(sa, sc, p);

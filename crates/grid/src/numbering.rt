@@ -2,7 +2,7 @@
 ghost use mathlib.Core.Path.{_≡_};
 ghost use mathlib.Core.Bool.{false};
 ghost use Rattle.job.specs.Replies.{reply, numberSays};
-ghost use Rattle.tables.specs.Plans.{Planned, PreparedFor, numberFor};
+ghost use Rattle.tables.specs.Plans.{Narrow, Planned, PreparedFor, numberFor};
 ghost use Rattle.tables.specs.Filling.{Begun};
 use crate::edges::read;
 use crate::plan::cells_of;
@@ -21,7 +21,7 @@ fn number_in(
     p: Plan,
     edge: &[u8],
 ) -> Numbered
-    requires { ⌜ Begun p (now sa) (now sc) (now off) (now val) ⌝ }
+    requires { ⌜ Begun p (now sa) (now sc) (now off) (now val) × Narrow p ⌝ }
     ensures { λ r. ⌜ numberSays r ≡ reply (numberFor false p (now (sa .entry)) (now (sc .entry)) (now (edge .entry))) ⌝ }
 {
     if let Answer::Over = fill(val, sa, sc, off, p) {
@@ -31,7 +31,7 @@ fn number_in(
 }
 
 fn number_128(sa: &[usize; 8], sc: &[usize; 8], off: &[usize; 8], p: Plan, edge: &[u8]) -> Numbered
-    requires { ⌜ PreparedFor p (now sa) (now sc) (now off) 128 ⌝ }
+    requires { ⌜ PreparedFor p (now sa) (now sc) (now off) 128 × Narrow p ⌝ }
     ensures { λ r. ⌜ numberSays r ≡ reply (numberFor false p (now (sa .entry)) (now (sc .entry)) (now (edge .entry))) ⌝ }
 {
     let mut val = [0u64; 128];
@@ -39,7 +39,7 @@ fn number_128(sa: &[usize; 8], sc: &[usize; 8], off: &[usize; 8], p: Plan, edge:
 }
 
 fn number_384(sa: &[usize; 8], sc: &[usize; 8], off: &[usize; 8], p: Plan, edge: &[u8]) -> Numbered
-    requires { ⌜ PreparedFor p (now sa) (now sc) (now off) 384 ⌝ }
+    requires { ⌜ PreparedFor p (now sa) (now sc) (now off) 384 × Narrow p ⌝ }
     ensures { λ r. ⌜ numberSays r ≡ reply (numberFor false p (now (sa .entry)) (now (sc .entry)) (now (edge .entry))) ⌝ }
 {
     let mut val = [0u64; 384];
@@ -47,7 +47,7 @@ fn number_384(sa: &[usize; 8], sc: &[usize; 8], off: &[usize; 8], p: Plan, edge:
 }
 
 fn number_1280(sa: &[usize; 8], sc: &[usize; 8], off: &[usize; 8], p: Plan, edge: &[u8]) -> Numbered
-    requires { ⌜ PreparedFor p (now sa) (now sc) (now off) 1280 ⌝ }
+    requires { ⌜ PreparedFor p (now sa) (now sc) (now off) 1280 × Narrow p ⌝ }
     ensures { λ r. ⌜ numberSays r ≡ reply (numberFor false p (now (sa .entry)) (now (sc .entry)) (now (edge .entry))) ⌝ }
 {
     let mut val = [0u64; 1280];
@@ -55,7 +55,7 @@ fn number_1280(sa: &[usize; 8], sc: &[usize; 8], off: &[usize; 8], p: Plan, edge
 }
 
 fn number_2496(sa: &[usize; 8], sc: &[usize; 8], off: &[usize; 8], p: Plan, edge: &[u8]) -> Numbered
-    requires { ⌜ PreparedFor p (now sa) (now sc) (now off) 2496 ⌝ }
+    requires { ⌜ PreparedFor p (now sa) (now sc) (now off) 2496 × Narrow p ⌝ }
     ensures { λ r. ⌜ numberSays r ≡ reply (numberFor false p (now (sa .entry)) (now (sc .entry)) (now (edge .entry))) ⌝ }
 {
     let mut val = [0u64; 2496];
@@ -63,7 +63,7 @@ fn number_2496(sa: &[usize; 8], sc: &[usize; 8], off: &[usize; 8], p: Plan, edge
 }
 
 fn number_3712(sa: &[usize; 8], sc: &[usize; 8], off: &[usize; 8], p: Plan, edge: &[u8]) -> Numbered
-    requires { ⌜ PreparedFor p (now sa) (now sc) (now off) 3712 ⌝ }
+    requires { ⌜ PreparedFor p (now sa) (now sc) (now off) 3712 × Narrow p ⌝ }
     ensures { λ r. ⌜ numberSays r ≡ reply (numberFor false p (now (sa .entry)) (now (sc .entry)) (now (edge .entry))) ⌝ }
 {
     let mut val = [0u64; 3712];
@@ -72,7 +72,7 @@ fn number_3712(sa: &[usize; 8], sc: &[usize; 8], off: &[usize; 8], p: Plan, edge
 
 // The number of the edge, in a table of the smallest of five sizes that has room.
 pub(crate) fn number(sa: &[usize; 8], sc: &[usize; 8], p: Plan, edge: &[u8]) -> Numbered
-    requires { ⌜ Planned (now sa) (now sc) p ⌝ }
+    requires { ⌜ Planned (now sa) (now sc) p × Narrow p ⌝ }
     ensures { λ r. ⌜ numberSays r ≡ reply (numberFor false p (now (sa .entry)) (now (sc .entry)) (now (edge .entry))) ⌝ }
 {
     let off = offsets(sa, sc, p);

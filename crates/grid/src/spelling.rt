@@ -7,7 +7,7 @@ ghost use lib.ListN.{length};
 ghost use Rattle.rules.specs.Questions.{allBelow};
 ghost use Rattle.tables.specs.Spelling.{Front};
 ghost use Rattle.tables.specs.Filling.{Begun, Full};
-ghost use Rattle.tables.specs.Plans.{Planned, PreparedFor, walksFor, RoomFor, edgeFor, ListsFor, BuildsFor};
+ghost use Rattle.tables.specs.Plans.{Narrow, Planned, PreparedFor, walksFor, RoomFor, edgeFor, ListsFor, BuildsFor};
 use crate::edges::spell;
 use crate::plan::cells_of;
 use crate::plan::offsets;
@@ -71,7 +71,7 @@ fn spell_in(
     steps: &mut [u8],
     ends: &mut [usize],
 ) -> Built
-    requires { ⌜ Begun p (now sa) (now sc) (now off) (now val) × RoomFor (now numbers) (now steps) (now ends) ⌝ }
+    requires { ⌜ Begun p (now sa) (now sc) (now off) (now val) × Narrow p × RoomFor (now numbers) (now steps) (now ends) ⌝ }
     ensures { λ r. ⌜ BuildsFor false p (now (sa .entry)) (now (sc .entry)) (now (numbers .entry)) (now (steps .entry)) (now (ends .entry)) (now (steps .exit)) (now (ends .exit)) r ⌝ }
 {
     let Answer::Count(c) = fill(val, sa, sc, off, p) else {
@@ -92,7 +92,7 @@ fn spell_128(
     steps: &mut [u8],
     ends: &mut [usize],
 ) -> Built
-    requires { ⌜ PreparedFor p (now sa) (now sc) (now off) 128 × RoomFor (now numbers) (now steps) (now ends) ⌝ }
+    requires { ⌜ PreparedFor p (now sa) (now sc) (now off) 128 × Narrow p × RoomFor (now numbers) (now steps) (now ends) ⌝ }
     ensures { λ r. ⌜ BuildsFor false p (now (sa .entry)) (now (sc .entry)) (now (numbers .entry)) (now (steps .entry)) (now (ends .entry)) (now (steps .exit)) (now (ends .exit)) r ⌝ }
 {
     let mut val = [0u64; 128];
@@ -108,7 +108,7 @@ fn spell_384(
     steps: &mut [u8],
     ends: &mut [usize],
 ) -> Built
-    requires { ⌜ PreparedFor p (now sa) (now sc) (now off) 384 × RoomFor (now numbers) (now steps) (now ends) ⌝ }
+    requires { ⌜ PreparedFor p (now sa) (now sc) (now off) 384 × Narrow p × RoomFor (now numbers) (now steps) (now ends) ⌝ }
     ensures { λ r. ⌜ BuildsFor false p (now (sa .entry)) (now (sc .entry)) (now (numbers .entry)) (now (steps .entry)) (now (ends .entry)) (now (steps .exit)) (now (ends .exit)) r ⌝ }
 {
     let mut val = [0u64; 384];
@@ -124,7 +124,7 @@ fn spell_1280(
     steps: &mut [u8],
     ends: &mut [usize],
 ) -> Built
-    requires { ⌜ PreparedFor p (now sa) (now sc) (now off) 1280 × RoomFor (now numbers) (now steps) (now ends) ⌝ }
+    requires { ⌜ PreparedFor p (now sa) (now sc) (now off) 1280 × Narrow p × RoomFor (now numbers) (now steps) (now ends) ⌝ }
     ensures { λ r. ⌜ BuildsFor false p (now (sa .entry)) (now (sc .entry)) (now (numbers .entry)) (now (steps .entry)) (now (ends .entry)) (now (steps .exit)) (now (ends .exit)) r ⌝ }
 {
     let mut val = [0u64; 1280];
@@ -140,7 +140,7 @@ fn spell_2496(
     steps: &mut [u8],
     ends: &mut [usize],
 ) -> Built
-    requires { ⌜ PreparedFor p (now sa) (now sc) (now off) 2496 × RoomFor (now numbers) (now steps) (now ends) ⌝ }
+    requires { ⌜ PreparedFor p (now sa) (now sc) (now off) 2496 × Narrow p × RoomFor (now numbers) (now steps) (now ends) ⌝ }
     ensures { λ r. ⌜ BuildsFor false p (now (sa .entry)) (now (sc .entry)) (now (numbers .entry)) (now (steps .entry)) (now (ends .entry)) (now (steps .exit)) (now (ends .exit)) r ⌝ }
 {
     let mut val = [0u64; 2496];
@@ -156,7 +156,7 @@ fn spell_3712(
     steps: &mut [u8],
     ends: &mut [usize],
 ) -> Built
-    requires { ⌜ PreparedFor p (now sa) (now sc) (now off) 3712 × RoomFor (now numbers) (now steps) (now ends) ⌝ }
+    requires { ⌜ PreparedFor p (now sa) (now sc) (now off) 3712 × Narrow p × RoomFor (now numbers) (now steps) (now ends) ⌝ }
     ensures { λ r. ⌜ BuildsFor false p (now (sa .entry)) (now (sc .entry)) (now (numbers .entry)) (now (steps .entry)) (now (ends .entry)) (now (steps .exit)) (now (ends .exit)) r ⌝ }
 {
     let mut val = [0u64; 3712];
@@ -172,7 +172,7 @@ pub(crate) fn spell_edges(
     steps: &mut [u8],
     ends: &mut [usize],
 ) -> Built
-    requires { ⌜ Planned (now sa) (now sc) p × RoomFor (now numbers) (now steps) (now ends) ⌝ }
+    requires { ⌜ Planned (now sa) (now sc) p × Narrow p × RoomFor (now numbers) (now steps) (now ends) ⌝ }
     ensures { λ r. ⌜ BuildsFor false p (now (sa .entry)) (now (sc .entry)) (now (numbers .entry)) (now (steps .entry)) (now (ends .entry)) (now (steps .exit)) (now (ends .exit)) r ⌝ }
 {
     let off = offsets(sa, sc, p);

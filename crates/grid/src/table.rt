@@ -1,6 +1,6 @@
 // The table of families 6 and 7 filled column by column: first without tests, and with flags from the first column that could need them.
 ghost use Prim.Native.Nat.{_+_};
-ghost use Rattle.tables.specs.Plans.{FlaggedFor, SpansFor};
+ghost use Rattle.tables.specs.Plans.{FlaggedFor, Narrow, SpansFor};
 ghost use Rattle.tables.specs.Filling.{Begun, Before, After, Got, Resumed, Turn, Slow, Filled};
 use crate::column::column2;
 use crate::column::column4;
@@ -13,14 +13,15 @@ use crate::flags::total;
 use tables::Answer;
 use tables::Plan;
 
-// Column x. Whether the next one can be summed without a test.
+// Column x. Whether the next one can be summed without a test: two steps have no more than 2^32 walks in 32 columns, four no more than 2^60
+// in 30, and eight in 20.
 fn step(
     val: &mut [u64],
     sa: &[usize; 8],
     sc: &[usize; 8],
     off: &[usize; 8],
-    starts: &[usize; 98],
-    stops: &[usize; 98],
+    starts: &[usize; 33],
+    stops: &[usize; 33],
     p: Plan,
     x: usize,
 ) -> bool
@@ -37,10 +38,7 @@ fn step(
     let n = to - from;
     if p.k <= 2 {
         column2(val, sa, off, x, d, n);
-        if x <= 60 {
-            return true;
-        }
-        return is_small(val, d, n);
+        return true;
     }
     if p.few {
         column4(val, sa, off, x, d, n);
@@ -87,8 +85,8 @@ fn turn(
     sa: &[usize; 8],
     sc: &[usize; 8],
     off: &[usize; 8],
-    starts: &[usize; 98],
-    stops: &[usize; 98],
+    starts: &[usize; 33],
+    stops: &[usize; 33],
     p: Plan,
     x: usize,
 )
@@ -110,8 +108,8 @@ fn fast(
     sa: &[usize; 8],
     sc: &[usize; 8],
     off: &[usize; 8],
-    starts: &[usize; 98],
-    stops: &[usize; 98],
+    starts: &[usize; 33],
+    stops: &[usize; 33],
     p: Plan,
 ) -> usize
     requires { ⌜ Begun p (now sa) (now sc) (now off) (now val) ⌝ }
@@ -137,8 +135,8 @@ fn rest(
     sa: &[usize; 8],
     sc: &[usize; 8],
     off: &[usize; 8],
-    starts: &[usize; 98],
-    stops: &[usize; 98],
+    starts: &[usize; 33],
+    stops: &[usize; 33],
     p: Plan,
     first: usize,
 ) -> Answer
@@ -164,11 +162,11 @@ pub(crate) fn fill(
     off: &[usize; 8],
     p: Plan,
 ) -> Answer
-    requires { ⌜ Begun p (now sa) (now sc) (now off) (now val) ⌝ }
+    requires { ⌜ Begun p (now sa) (now sc) (now off) (now val) × Narrow p ⌝ }
     ensures { λ r. ⌜ Filled p (now (sa .entry)) (now (sc .entry)) (now (val .exit)) r ⌝ }
 {
-    let mut starts = [0usize; 98];
-    let mut stops = [0usize; 98];
+    let mut starts = [0usize; 33];
+    let mut stops = [0usize; 33];
     spans(&mut starts, &mut stops, p.f, p.hi, p.ex, p.ey);
     let next = fast(val, sa, sc, off, &starts, &stops, p);
     if next <= p.ex {

@@ -132,23 +132,25 @@ module _ (s : Shape) (d f ey : ℕ) (up : List ℕ) where
       let w = v .gentle in
       let l : ey ≤ 96 = v .near ey h in
       let top : s .top ≡ 12 = w .top-is in
-      let wide : s .ex ≤ 32 = w .wide in
-      record {
-        eight = w .eight;
-        eight-too = u .eight;
-        some = w .some;
-        most = w .lifted .few;
-        ahead = w .lifted .ahead;
-        near = w .lifted .near;
-        away = w .away;
-        flat = u .flat;
-        low = λ i k. low t v u i k (decLt i (s .k));
-        top-le = omega arith;
-        f-le = e;
-        ex-le = omega arith;
-        ey-le = l;
-        cells = product (s .ex + 2) (s .top + ey + 1) 34 109 3712 (omega arith) (omega arith) (omega arith);
-      }
+      let wide : s .ex ≤ 32 = w .wide in (
+        record {
+          eight = w .eight;
+          eight-too = u .eight;
+          some = w .some;
+          most = w .lifted .few;
+          ahead = w .lifted .ahead;
+          near = w .lifted .near;
+          away = w .away;
+          flat = u .flat;
+          low = λ i k. low t v u i k (decLt i (s .k));
+          top-le = omega arith;
+          f-le = e;
+          ex-le = omega arith;
+          ey-le = l;
+          cells = product (s .ex + 2) (s .top + ey + 1) 34 109 3712 (omega arith) (omega arith) (omega arith);
+        },
+        wide,
+      )
 
   shows : (t : Bool) → Turned t (s .f) d f → Height t (s .ey) (d * s .ex) ey → Heights t d (s .sa) (s .sc) up (s .k) → Shows (stepsAt s) (endAt s) seen
   shows false w h u = slid d (record { many = refl; right = λ i l. refl; up = u .each; wall = w }) (refl, h)

@@ -145,11 +145,12 @@ module _ {f hi ex ey x from to : ℕ} (fr : From f hi ex ey x from) (up : To f h
   wall-in y l h = wall-between f x y (λ k. omega (arith, fr .inside k)) (λ k. up .inside k y h)
 
 module _ {f hi ex ey : ℕ} {starts stops : List ℕ} where
-  pub spans-none : Spans f hi ex ey starts stops 1
-  spans-none = record { low = λ x p l. absurd (omega arith); high = λ x p l. absurd (omega arith) }
+  pub spans-none : ex ≤ 32 → Spans f hi ex ey starts stops 1
+  spans-none w = record { narrow = w; low = λ x p l. absurd (omega arith); high = λ x p l. absurd (omega arith) }
 
   pub spans-more : {n from to : ℕ} → Spans f hi ex ey starts stops n → n < length starts → n < length stops → From f hi ex ey n from → To f hi ey n to → Spans f hi ex ey (set starts n from) (set stops n to) (n + 1)
   spans-more {n} {from} {to} s l m fr up = record {
+    narrow = s .narrow;
     low = λ x p h. below-more (λ j. 1 ≤ j → From f hi ex ey j (getD (set starts n from) j 0)) n (λ j h p. rw (getD-set-other starts n j from 0 (λ q. omega arith)) (s .low j p h)) (λ p. rw (getD-set-same starts n from 0 l) fr) x h p;
     high = λ x p h. below-more (λ j. 1 ≤ j → To f hi ey j (getD (set stops n to) j 0)) n (λ j h p. rw (getD-set-other stops n j to 0 (λ q. omega arith)) (s .high j p h)) (λ p. rw (getD-set-same stops n to 0 m) up) x h p;
   }

@@ -1,6 +1,7 @@
 -- What is said of a table by the plan of its shape.
 --
 --   strideFor p, cellsFor p           how many cells a column has, and all of the table
+--   Narrow p                          the plan has no more than the 32 columns of families 6 and 7
 --   SizesFor p                        bounds of the plan's numbers
 --   FormFor p sa sc                   the steps sa, sc with the plan's end are a form
 --   Planned sa sc p                   the steps sa, sc have the form, the steepest and the deepest step that the plan p says, and are few if it says so
@@ -15,7 +16,7 @@
 use mathlib.Core.Path.{_≡_}
 use mathlib.Core.Bool.{Bool}
 use mathlib.Core.List.{List}
-use Prim.Native.Nat.{ℕ, _+_, _*_}
+use Prim.Native.Nat.{ℕ, _+_, _*_, _≤_}
 use lib.ListN.{length}
 use Rattle.rules.specs.Refusals.{Answer}
 use Rattle.rules.specs.Refusals.Answer.{accepted}
@@ -40,6 +41,9 @@ cellsFor p = (p .ex + 2) * strideFor p
 
 abbrev pub SizesFor : Plan → Type 0
 SizesFor p = Sizes (p .f) (p .hi) (p .m) (p .ex) (p .ey)
+
+abbrev pub Narrow : Plan → Type 0
+Narrow p = p .ex ≤ 32
 
 abbrev pub FormFor : Plan → List ℕ → List ℕ → Type 0
 FormFor p sa sc = Form (p .k) (p .f) sa sc (p .top) (p .ex) (p .ey)

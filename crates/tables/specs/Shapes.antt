@@ -5,7 +5,7 @@
 --   isCorner J          its edges are written N E D
 --   Sits J q            the spot q stands for the job's end
 --   stepsAt s, endAt s  the steps and the end of the shape s
---   FormOf s            the shape s is one that the table can be filled for
+--   FormOf s            the shape s is one that the table can be filled for, with no more than the 32 columns of families 6 and 7
 --   Shows G q s         the shape s shows the grid G with the end q: slid down, or mirrored
 --   Fits J s            the shape s shows the grid of the job and its end
 --   Shaped J s          s says all of the job: its steps and end, and its letters are digits, or that nothing leads to its end
@@ -78,7 +78,7 @@ pub data Shows (G : Steps) (q : Spot) (s : Shape) : Type 0 where
   mirrored : (d : ℕ) → Mirrored d G (stepsAt s) → Across d (endAt s) q → Shows G q s
 
 abbrev pub FormOf : Shape → Type 0
-FormOf s = Form (s .k) (s .f) (s .sa) (s .sc) (s .top) (s .ex) (s .ey)
+FormOf s = Form (s .k) (s .f) (s .sa) (s .sc) (s .top) (s .ex) (s .ey) × (s .ex ≤ 32)
 
 pub record Fits (J : rules.Job) (s : Shape) : Type 0 where
   pub end : Spot

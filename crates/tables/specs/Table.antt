@@ -10,7 +10,7 @@
 --   Fence f x r          r is the lowest height of column x that the wall f allows if it is a fence, else 0
 --   Roof f x y r         r is the highest that it allows if it is a roof, or y where that is lower
 --   From, To             where the heights of column x that matter begin, and end
---   Spans                where those of the columns from 1 to before n begin, and end
+--   Spans                where those of the columns from 1 to before n begin, and end; there are no more than 32
 --   Cells T at           the columns before x are right, as far as they can matter; at is what a cell says, T how it says a number
 --   Sheet T at           the same, and every cell of the columns from x on says 0
 --   Table                a sheet of values
@@ -84,6 +84,7 @@ pub record To (f hi ey x r : ℕ) : Type 0 where
   pub beyond : (y : ℕ) → r ≤ y → y ≤ ey → T (wall f x y) → hi * x < 6 * y
 
 pub record Spans (f hi ex ey : ℕ) (starts stops : List ℕ) (n : ℕ) : Type 0 where
+  pub narrow : ex ≤ 32
   pub low : (x : ℕ) → 1 ≤ x → x < n → From f hi ex ey x (getD starts x 0)
   pub high : (x : ℕ) → 1 ≤ x → x < n → To f hi ey x (getD stops x 0)
 

@@ -1,4 +1,5 @@
 -- `grid::build_shape` meets its contract: by the shape's state, and then by the table's answer. Assumes nothing.
+use native.Mathlib.Omega.{arith}
 use Rattle.tables.proofs.Counted.{state-none, state-working}
 use Rattle.tables.proofs.Builds.{build-none, build-empty, plan-builds}
 use borrow.Author.Needs.{needs}
@@ -19,7 +20,9 @@ plan-of-requires c κs =
 
 spell-edges-requires : tie.Need-spell-edges-requires
 spell-edges-requires c κs =
-    (c .before .before .before .before .before .before .plan-of .ensures .planned, c .before .before .before .before .before .before .before .before .before .before .before .pre .1)
+    let p = c .before .before .before .before .before .before .plan-of .ensures in
+    let s = c .before .before .before .before .before .before .before .before .before .before .before .pre in
+    (p .planned, omega (arith, p .ex-is, state-working (s .0 .job) _ (s .0 .shaped) (c .before .before .before .before .before .before .before .if1 .left) .form .1), s .1)
 
 same-length : tie.Need-same-length
 same-length c = search needs

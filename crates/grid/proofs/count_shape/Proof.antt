@@ -15,7 +15,9 @@ plan-of-requires c κs =
 
 count-requires : tie.Need-count-requires
 count-requires c κs =
-    c .before .before .before .before .plan-of .ensures .planned
+    let p = c .before .before .before .before .plan-of .ensures in
+    let s = c .before .before .before .before .before .before .pre in
+    (p .planned, omega (arith, p .ex-is, state-working (s .job) _ (s .shaped) (c .before .before .before .before .before .if1 .left) .form .1))
 
 told-requires : tie.Need-told-requires
 told-requires c κs = search needs

@@ -1,4 +1,5 @@
 -- `grid::number_shape` meets its contract: by the shape's state, and then by the table's answer. Assumes nothing.
+use native.Mathlib.Omega.{arith}
 use Rattle.tables.proofs.Counted.{state-none, state-empty, state-working, number-none, plan-number}
 use Rattle.grid.proofs.number_shape.Statement.{statement}
 use Rattle.grid.proofs.number_shape.Tie as tie
@@ -13,7 +14,9 @@ plan-of-requires c κs =
 
 number-requires : tie.Need-number-requires
 number-requires c κs =
-    c .before .before .before .before .plan-of .ensures .planned
+    let p = c .before .before .before .before .plan-of .ensures in
+    let s = c .before .before .before .before .before .before .before .pre in
+    (p .planned, omega (arith, p .ex-is, state-working (s .job) _ (s .shaped) (c .before .before .before .before .before .if1 .left) .form .1))
 
 returns-2 : tie.Need-returns-2
 returns-2 c =

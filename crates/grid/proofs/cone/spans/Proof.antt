@@ -15,7 +15,7 @@ abbrev μ-loop : tie.MeasureT-loop
 μ-loop starts₀ stops₀ f hi ex ey x₀ starts stops x = ex + 1 - x
 
 loop-holds : tie.Need-loop-holds Inv-loop μ-loop
-loop-holds c = (omega arith, omega arith, c .pre .1 .0, c .pre .1 .1, spans-none)
+loop-holds c = (omega arith, omega arith, c .pre .1 .0, c .pre .1 .1, spans-none (c .pre .0 .2))
 
 from-at-requires : tie.Need-from-at-requires Inv-loop μ-loop
 from-at-requires c κs = search needs

@@ -8,7 +8,7 @@ slice-aggregate-fill : tie.Need-slice-aggregate-fill
 slice-aggregate-fill c = search needs
 
 fill-requires : tie.Need-fill-requires
-fill-requires c κs = record { ready = c .before .pre; zero-at = zeros-at 128 }
+fill-requires c κs = (record { ready = c .before .pre .0; zero-at = zeros-at 128 }, c .before .pre .1)
 
 returns : tie.Need-returns
 returns c = search needs

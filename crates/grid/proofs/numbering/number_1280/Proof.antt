@@ -8,7 +8,7 @@ slice-aggregate-number-in : tie.Need-slice-aggregate-number-in
 slice-aggregate-number-in c = search needs
 
 number-in-requires : tie.Need-number-in-requires
-number-in-requires c κs = record { ready = c .before .before .pre; zero-at = zeros-at 1280 }
+number-in-requires c κs = (record { ready = c .before .before .pre .0; zero-at = zeros-at 1280 }, c .before .before .pre .1)
 
 returns : tie.Need-returns
 returns c = search needs

@@ -24,7 +24,7 @@ enum-told-2 c = search needs
 
 read-requires : tie.Need-read-requires
 read-requires c κs =
-    filled-full (c .before .before .before .before .before .fill .ensures) (c .before .enum-told2 .given .1) (c .before .before .before .before .before .before .before .before .before .pre) (search needs)
+    filled-full (c .before .before .before .before .before .fill .ensures) (c .before .enum-told2 .given .1) (c .before .before .before .before .before .before .before .before .before .pre .0) (search needs)
 
 same-length-2 : tie.Need-same-length-2
 same-length-2 c = search needs

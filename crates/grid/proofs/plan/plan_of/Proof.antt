@@ -30,10 +30,10 @@ element-copy-out-c : tie.Need-element-copy-out-c Inv-loop μ-loop
 element-copy-out-c c = omega arith
 
 steeper-requires : tie.Need-steeper-requires Inv-loop μ-loop
-steeper-requires c κs = let p = c .before .before .before .before .pre in (c .before .before .before .loop .inv .1 .le, form-pos p _ (omega arith), form-near p _ (omega arith), form-low p _ (omega arith))
+steeper-requires c κs = let p = c .before .before .before .before .pre .0 in (c .before .before .before .loop .inv .1 .le, form-pos p _ (omega arith), form-near p _ (omega arith), form-low p _ (omega arith))
 
 deeper-requires : tie.Need-deeper-requires Inv-loop μ-loop
-deeper-requires c κs = (c .before .before .before .before .loop .inv .2 .le, c .before .before .before .before .before .pre .low _ (omega arith))
+deeper-requires c κs = (c .before .before .before .before .loop .inv .2 .le, c .before .before .before .before .before .pre .0 .low _ (omega arith))
 
 add-i : tie.Need-add-i Inv-loop μ-loop
 add-i c = omega arith
@@ -49,7 +49,7 @@ is-few-requires c κs = search needs
 
 returns : tie.Need-returns Inv-loop μ-loop
 returns c = record {
-  planned = record { form = c .before .before .before .before .before .pre; steep = steepest-at (c .before .before .before .before .loop .inv .1) (omega arith); deep = deepest-at (c .before .before .before .before .loop .inv .2) (omega arith); fewer = c .is-few .ensures };
+  planned = record { form = c .before .before .before .before .before .pre .0; steep = steepest-at (c .before .before .before .before .loop .inv .1) (omega arith); deep = deepest-at (c .before .before .before .before .loop .inv .2) (omega arith); fewer = c .is-few .ensures };
   k-is = refl;
   f-is = refl;
   ex-is = refl;

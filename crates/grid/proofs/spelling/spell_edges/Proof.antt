@@ -11,7 +11,7 @@ cells-of-requires : tie.Need-cells-of-requires
 cells-of-requires c κs = sizes-for (c .before .before .before .before .pre .0) (c .offsets .ensures)
 
 spell-128-requires : tie.Need-spell-128-requires
-spell-128-requires c κs = (prepared-for (c .before .before .before .before .before .before .before .before .before .pre .0) (c .before .before .before .before .before .offsets .ensures) (c .before .before .before .before .cells-of .ensures) 128 (c .before .before .before .if1 .taken), c .before .before .before .before .before .before .before .before .before .pre .1)
+spell-128-requires c κs = (prepared-for (c .before .before .before .before .before .before .before .before .before .pre .0) (c .before .before .before .before .before .offsets .ensures) (c .before .before .before .before .cells-of .ensures) 128 (c .before .before .before .if1 .taken), c .before .before .before .before .before .before .before .before .before .pre .1, c .before .before .before .before .before .before .before .before .before .pre .2)
 
 same-length : tie.Need-same-length
 same-length c = search needs
@@ -23,7 +23,7 @@ returns : tie.Need-returns
 returns c = search needs
 
 spell-384-requires : tie.Need-spell-384-requires
-spell-384-requires c κs = (prepared-for (c .before .before .before .before .before .before .before .before .before .before .pre .0) (c .before .before .before .before .before .before .offsets .ensures) (c .before .before .before .before .before .cells-of .ensures) 384 (c .before .before .before .if2 .taken), c .before .before .before .before .before .before .before .before .before .before .pre .1)
+spell-384-requires c κs = (prepared-for (c .before .before .before .before .before .before .before .before .before .before .pre .0) (c .before .before .before .before .before .before .offsets .ensures) (c .before .before .before .before .before .cells-of .ensures) 384 (c .before .before .before .if2 .taken), c .before .before .before .before .before .before .before .before .before .before .pre .1, c .before .before .before .before .before .before .before .before .before .before .pre .2)
 
 same-length-3 : tie.Need-same-length-3
 same-length-3 c = search needs
@@ -35,7 +35,7 @@ returns-2 : tie.Need-returns-2
 returns-2 c = search needs
 
 spell-1280-requires : tie.Need-spell-1280-requires
-spell-1280-requires c κs = (prepared-for (c .before .before .before .before .before .before .before .before .before .before .before .pre .0) (c .before .before .before .before .before .before .before .offsets .ensures) (c .before .before .before .before .before .before .cells-of .ensures) 1280 (c .before .before .before .if3 .taken), c .before .before .before .before .before .before .before .before .before .before .before .pre .1)
+spell-1280-requires c κs = (prepared-for (c .before .before .before .before .before .before .before .before .before .before .before .pre .0) (c .before .before .before .before .before .before .before .offsets .ensures) (c .before .before .before .before .before .before .cells-of .ensures) 1280 (c .before .before .before .if3 .taken), c .before .before .before .before .before .before .before .before .before .before .before .pre .1, c .before .before .before .before .before .before .before .before .before .before .before .pre .2)
 
 same-length-5 : tie.Need-same-length-5
 same-length-5 c = search needs
@@ -47,7 +47,7 @@ returns-3 : tie.Need-returns-3
 returns-3 c = search needs
 
 spell-2496-requires : tie.Need-spell-2496-requires
-spell-2496-requires c κs = (prepared-for (c .before .before .before .before .before .before .before .before .before .before .before .before .pre .0) (c .before .before .before .before .before .before .before .before .offsets .ensures) (c .before .before .before .before .before .before .before .cells-of .ensures) 2496 (c .before .before .before .if4 .taken), c .before .before .before .before .before .before .before .before .before .before .before .before .pre .1)
+spell-2496-requires c κs = (prepared-for (c .before .before .before .before .before .before .before .before .before .before .before .before .pre .0) (c .before .before .before .before .before .before .before .before .offsets .ensures) (c .before .before .before .before .before .before .before .cells-of .ensures) 2496 (c .before .before .before .if4 .taken), c .before .before .before .before .before .before .before .before .before .before .before .before .pre .1, c .before .before .before .before .before .before .before .before .before .before .before .before .pre .2)
 
 same-length-7 : tie.Need-same-length-7
 same-length-7 c = search needs
@@ -59,7 +59,7 @@ returns-4 : tie.Need-returns-4
 returns-4 c = search needs
 
 spell-3712-requires : tie.Need-spell-3712-requires
-spell-3712-requires c κs = (prepared-last (c .before .before .before .before .before .before .before .before .before .before .before .before .pre .0) (c .before .before .before .before .before .before .before .before .offsets .ensures), c .before .before .before .before .before .before .before .before .before .before .before .before .pre .1)
+spell-3712-requires c κs = (prepared-last (c .before .before .before .before .before .before .before .before .before .before .before .before .pre .0) (c .before .before .before .before .before .before .before .before .offsets .ensures), c .before .before .before .before .before .before .before .before .before .before .before .before .pre .1, c .before .before .before .before .before .before .before .before .before .before .before .before .pre .2)
 
 same-length-9 : tie.Need-same-length-9
 same-length-9 c = search needs

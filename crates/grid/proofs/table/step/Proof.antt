@@ -10,13 +10,13 @@ mul-from : tie.Need-mul-from
 mul-from c = search needs
 
 element-copy-out-from : tie.Need-element-copy-out-from
-element-copy-out-from c = omega (arith, c .before .pre .0 .end, c .before .pre .0 .ready .sizes .ex-le)
+element-copy-out-from c = omega (arith, c .before .pre .0 .end, c .before .pre .1 .narrow)
 
 mul-to : tie.Need-mul-to
 mul-to c = search needs
 
 element-copy-out-to : tie.Need-element-copy-out-to
-element-copy-out-to c = omega (arith, c .before .before .pre .0 .end, c .before .before .pre .0 .ready .sizes .ex-le)
+element-copy-out-to c = omega (arith, c .before .before .pre .0 .end, c .before .before .pre .1 .narrow)
 
 returns : tie.Need-returns
 returns c = let pre = c .before .before .before .before .pre in step-empty (pre .0) (pre .1) (c .if1 .taken)
@@ -49,52 +49,43 @@ same-length : tie.Need-same-length
 same-length c = search needs
 
 returns-2 : tie.Need-returns-2
-returns-2 c = let pre = c .before .before .before .before .before .before .before .before .before .before .before .before .before .pre in early (pre .0) (pre .1) (c .before .before .before .before .before .before .before .before .before .if1 .left) (first2 (pre .0) (c .before .before .before .before .before .if2 .taken)) (c .before .before .before .column2 .ensures) early-2 (c .if3 .taken)
+returns-2 c = let pre = c .before .before .before .before .before .before .before .before .before .before .before .before .pre in early (pre .0) (pre .1) (c .before .before .before .before .before .before .before .before .if1 .left) (first2 (pre .0) (c .before .before .before .before .if2 .taken)) (c .before .before .column2 .ensures) 60 early-2 (omega (arith, pre .0 .end, pre .1 .narrow))
 
-is-small-requires : tie.Need-is-small-requires
-is-small-requires c κs = let pre = c .before .before .before .before .before .before .before .before .before .before .before .before .before .before .pre in omega (arith, run (pre .0) (pre .1) (c .before .before .before .before .before .before .before .before .before .before .if1 .left) (first2 (pre .0) (c .before .before .before .before .before .before .if2 .taken)) .inside)
+column4-requires : tie.Need-column4-requires
+column4-requires c κs = let pre = c .before .before .before .before .before .before .before .before .before .before .pre in run (pre .0) (pre .1) (c .before .before .before .before .before .before .if1 .left) (first4 (pre .0) (c .before .if3 .taken))
 
 same-length-2 : tie.Need-same-length-2
 same-length-2 c = search needs
 
 returns-3 : tie.Need-returns-3
-returns-3 c = let pre = c .before .before .before .before .before .before .before .before .before .before .before .before .before .before .before .pre in seen (pre .0) (pre .1) (c .before .before .before .before .before .before .before .before .before .before .before .if1 .left) (first2 (pre .0) (c .before .before .before .before .before .before .before .if2 .taken)) (c .before .before .before .before .before .column2 .ensures) _ (c .is-small .ensures)
+returns-3 c = let pre = c .before .before .before .before .before .before .before .before .before .before .before .before .before .before .pre in early (pre .0) (pre .1) (c .before .before .before .before .before .before .before .before .before .before .if1 .left) (first4 (pre .0) (c .before .before .before .before .before .if3 .taken)) (c .before .before .before .column4 .ensures) 30 early-4 (c .if4 .taken)
 
-column4-requires : tie.Need-column4-requires
-column4-requires c κs = let pre = c .before .before .before .before .before .before .before .before .before .before .pre in run (pre .0) (pre .1) (c .before .before .before .before .before .before .if1 .left) (first4 (pre .0) (c .before .if4 .taken))
+is-small-requires : tie.Need-is-small-requires
+is-small-requires c κs = let pre = c .before .before .before .before .before .before .before .before .before .before .before .before .before .before .before .pre in omega (arith, run (pre .0) (pre .1) (c .before .before .before .before .before .before .before .before .before .before .before .if1 .left) (first4 (pre .0) (c .before .before .before .before .before .before .if3 .taken)) .inside)
 
 same-length-3 : tie.Need-same-length-3
 same-length-3 c = search needs
 
 returns-4 : tie.Need-returns-4
-returns-4 c = let pre = c .before .before .before .before .before .before .before .before .before .before .before .before .before .before .pre in early (pre .0) (pre .1) (c .before .before .before .before .before .before .before .before .before .before .if1 .left) (first4 (pre .0) (c .before .before .before .before .before .if4 .taken)) (c .before .before .before .column4 .ensures) early-4 (c .if5 .taken)
+returns-4 c = let pre = c .before .before .before .before .before .before .before .before .before .before .before .before .before .before .before .before .pre in seen (pre .0) (pre .1) (c .before .before .before .before .before .before .before .before .before .before .before .before .if1 .left) (first4 (pre .0) (c .before .before .before .before .before .before .before .if3 .taken)) (c .before .before .before .before .before .column4 .ensures) _ (c .is-small .ensures)
 
-is-small-requires-2 : tie.Need-is-small-requires-2
-is-small-requires-2 c κs = let pre = c .before .before .before .before .before .before .before .before .before .before .before .before .before .before .before .pre in omega (arith, run (pre .0) (pre .1) (c .before .before .before .before .before .before .before .before .before .before .before .if1 .left) (first4 (pre .0) (c .before .before .before .before .before .before .if4 .taken)) .inside)
+column8-requires : tie.Need-column8-requires
+column8-requires c κs = let pre = c .before .before .before .before .before .before .before .before .before .before .pre in run (pre .0) (pre .1) (c .before .before .before .before .before .before .if1 .left) (first8 (pre .0))
 
 same-length-4 : tie.Need-same-length-4
 same-length-4 c = search needs
 
 returns-5 : tie.Need-returns-5
-returns-5 c = let pre = c .before .before .before .before .before .before .before .before .before .before .before .before .before .before .before .before .pre in seen (pre .0) (pre .1) (c .before .before .before .before .before .before .before .before .before .before .before .before .if1 .left) (first4 (pre .0) (c .before .before .before .before .before .before .before .if4 .taken)) (c .before .before .before .before .before .column4 .ensures) _ (c .is-small2 .ensures)
+returns-5 c = let pre = c .before .before .before .before .before .before .before .before .before .before .before .before .before .before .pre in early (pre .0) (pre .1) (c .before .before .before .before .before .before .before .before .before .before .if1 .left) (first8 (pre .0)) (c .before .before .before .column8 .ensures) 20 early-8 (c .if5 .taken)
 
-column8-requires : tie.Need-column8-requires
-column8-requires c κs = let pre = c .before .before .before .before .before .before .before .before .before .before .pre in run (pre .0) (pre .1) (c .before .before .before .before .before .before .if1 .left) (first8 (pre .0))
+is-small-requires-2 : tie.Need-is-small-requires-2
+is-small-requires-2 c κs = let pre = c .before .before .before .before .before .before .before .before .before .before .before .before .before .before .before .pre in omega (arith, run (pre .0) (pre .1) (c .before .before .before .before .before .before .before .before .before .before .before .if1 .left) (first8 (pre .0)) .inside)
 
 same-length-5 : tie.Need-same-length-5
 same-length-5 c = search needs
 
 returns-6 : tie.Need-returns-6
-returns-6 c = let pre = c .before .before .before .before .before .before .before .before .before .before .before .before .before .before .pre in early (pre .0) (pre .1) (c .before .before .before .before .before .before .before .before .before .before .if1 .left) (first8 (pre .0)) (c .before .before .before .column8 .ensures) early-8 (c .if6 .taken)
-
-is-small-requires-3 : tie.Need-is-small-requires-3
-is-small-requires-3 c κs = let pre = c .before .before .before .before .before .before .before .before .before .before .before .before .before .before .before .pre in omega (arith, run (pre .0) (pre .1) (c .before .before .before .before .before .before .before .before .before .before .before .if1 .left) (first8 (pre .0)) .inside)
-
-same-length-6 : tie.Need-same-length-6
-same-length-6 c = search needs
-
-returns-7 : tie.Need-returns-7
-returns-7 c = let pre = c .before .before .before .before .before .before .before .before .before .before .before .before .before .before .before .before .pre in seen (pre .0) (pre .1) (c .before .before .before .before .before .before .before .before .before .before .before .before .if1 .left) (first8 (pre .0)) (c .before .before .before .before .before .column8 .ensures) _ (c .is-small3 .ensures)
+returns-6 c = let pre = c .before .before .before .before .before .before .before .before .before .before .before .before .before .before .before .before .pre in seen (pre .0) (pre .1) (c .before .before .before .before .before .before .before .before .before .before .before .before .if1 .left) (first8 (pre .0)) (c .before .before .before .before .before .column8 .ensures) _ (c .is-small2 .ensures)
 
 pub step-spec : {M : Type 1} → statement M
 step-spec =
@@ -115,18 +106,15 @@ step-spec =
     column2-requires
     same-length
     returns-2
-    is-small-requires
+    column4-requires
     same-length-2
     returns-3
-    column4-requires
+    is-small-requires
     same-length-3
     returns-4
-    is-small-requires-2
+    column8-requires
     same-length-4
     returns-5
-    column8-requires
+    is-small-requires-2
     same-length-5
-    returns-6
-    is-small-requires-3
-    same-length-6
-    returns-7)
+    returns-6)

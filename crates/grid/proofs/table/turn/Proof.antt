@@ -9,13 +9,13 @@ mul-from : tie.Need-mul-from
 mul-from c = search needs
 
 element-copy-out-from : tie.Need-element-copy-out-from
-element-copy-out-from c = omega (arith, c .before .before .pre .0 .end, c .before .before .pre .0 .ready .sizes .ex-le)
+element-copy-out-from c = omega (arith, c .before .before .pre .0 .end, c .before .before .pre .1 .narrow)
 
 mul-to : tie.Need-mul-to
 mul-to c = search needs
 
 element-copy-out-to : tie.Need-element-copy-out-to
-element-copy-out-to c = omega (arith, c .before .before .before .pre .0 .end, c .before .before .before .pre .0 .ready .sizes .ex-le)
+element-copy-out-to c = omega (arith, c .before .before .before .pre .0 .end, c .before .before .before .pre .1 .narrow)
 
 returns : tie.Need-returns
 returns c = turn-none (c .before .before .before .before .before .pre .0) (span-low (c .before .before .before .before .before .pre .1) (c .before .before .before .before .before .pre .0 .start) (c .before .before .before .before .before .pre .0 .end)) (span-high (c .before .before .before .before .before .pre .1) (c .before .before .before .before .before .pre .0 .start) (c .before .before .before .before .before .pre .0 .end)) (c .if1 .taken)
