@@ -7,6 +7,7 @@ ghost use Rattle.howmany.specs.Sum.{sum};
 ghost use Rattle.job.specs.Replies.{reply, numberSays};
 ghost use Rattle.tables.specs.Form.{via};
 ghost use Rattle.letters.specs.Letters.{glyphOf};
+ghost use Rattle.tables.specs.Cells.{sourceOf};
 ghost use Rattle.tables.specs.Edges.{Reads, Sought};
 ghost use Rattle.tables.specs.Plans.{walksFor, numberFor, edgeFor};
 ghost use Rattle.tables.specs.Filling.{Full};
@@ -98,10 +99,11 @@ pub(crate) fn read(
     Numbered::Number(acc)
 }
 
-// A last step, and the number of what stands before it.
+// A last step, the number of what stands before it, and the cell that it comes from.
 pub(crate) struct Pick {
     pub(crate) letter: usize,
     pub(crate) rest: u64,
+    pub(crate) from: usize,
 }
 
 // The last step of number r among the walks to column x, height y.
@@ -119,7 +121,7 @@ fn seek(
 ) -> Pick
     requires { ⌜ Reads k f (now sa) (now sc) (now off) (now val) x y at ⌝ }
     requires { ⌜ r < sum (via k f (now sa) (now sc) x y) k ⌝ }
-    ensures { λ q. ⌜ Sought (via k f (now (sa .entry)) (now (sc .entry)) x y) k r (q .letter) (q .rest) ⌝ }
+    ensures { λ q. ⌜ Sought (via k f (now (sa .entry)) (now (sc .entry)) x y) k r (q .letter) (q .rest) × (q .from ≡ sourceOf (now (sa .entry)) (now (off .entry)) x at (q .letter)) ⌝ }
 {
     let mut left = r;
     let mut i = 0;
@@ -130,12 +132,17 @@ fn seek(
             return Pick {
                 letter: i,
                 rest: left,
+                from: s,
             };
         }
         left -= v;
         i += 1;
     }
-    Pick { letter: 0, rest: 0 }
+    Pick {
+        letter: 0,
+        rest: 0,
+        from: 0,
+    }
 }
 
 // The edge of number r, at the end of buf (001, algorithm 8); the answer is where it starts.
@@ -164,7 +171,7 @@ pub(crate) fn spell(
         buf[s] = glyph_of(l);
         x -= sa[l];
         y -= sc[l];
-        at -= off[l];
+        at = q.from;
     }
     s
 }

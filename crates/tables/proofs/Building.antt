@@ -3,7 +3,7 @@
 --   seek-here, seek-more, seek-end    the loop of `seek`
 --   unr, unr-start, unr-step     the steps of the edge of a number, the last one first
 --   write-turn, write-done       a byte written in front of the others, and all of them
---   Writing, writing-start, written, write-as, writing-end    the loop of `spell`
+--   Writing, writing-start, written, write-as, write-from, writing-end    the loop of `spell`
 use mathlib.Core.Path.{_≡_, refl, sym, ap, ap₂, _∙_}
 use mathlib.Core.Bool.{Bool}
 use mathlib.Core.Option.{Option, some}
@@ -25,13 +25,14 @@ use Rattle.backward.proofs.Backward.{unrank-start, unrank-step}
 use Rattle.backward.proofs.Grids.{grid-lawful}
 use Rattle.tables.specs.Form.{wall, stepsIn, spot, W, via}
 use Rattle.letters.specs.Letters.{glyphOf}
-use Rattle.tables.specs.Cells.{place}
+use Rattle.tables.specs.Cells.{place, sourceOf}
 use Rattle.tables.specs.declared.Plan as plans
 use Rattle.tables.specs.Table.{Slopes}
 use Rattle.tables.specs.Edges.{endOf, edgeOf, Reads, Sought}
 use Rattle.tables.specs.Plans.{walksFor, edgeFor}
 use Rattle.tables.specs.Filling.{Full}
 use Rattle.tables.proofs.Walls.{tested, wall-start}
+use Rattle.tables.proofs.Columns.{source-in}
 use Rattle.tables.proofs.Laws.{onward, sum-more, via-in, via-left, via-under, W-start, W-out, W-step}
 use Rattle.tables.proofs.Counts.{pos-of}
 use Rattle.tables.proofs.Reading.{back-is, end-in}
@@ -146,6 +147,11 @@ pub record Written (corner : Bool) (p : plans.Plan) (sa sc off val : List ℕ) (
 pub write-as : {corner : Bool} {p : plans.Plan} {sa sc off val : List ℕ} {r : ℕ} {buf₀ buf : List ℕ} {x y cell s l rest : ℕ} → Written corner p sa sc off val r buf₀ buf x y cell s l rest → {a o v : ℕ}
     → a ≡ getD sa l 0 → o ≡ getD off l 0 → v ≡ glyphOf corner l → Writing corner p sa sc off val r buf₀ (set buf (s - 1) v) (x - a) (y - getD sc l 0) (cell - o) rest (s - 1)
 write-as t ea eo ev = rw (ea, eo) (t .next _ ev)
+
+-- the same by the cell that the step comes from
+pub write-from : {corner : Bool} {p : plans.Plan} {sa sc off val : List ℕ} {r : ℕ} {buf₀ buf : List ℕ} {x y cell s l rest : ℕ} → Written corner p sa sc off val r buf₀ buf x y cell s l rest → {from v : ℕ}
+    → from ≡ sourceOf sa off x cell l → v ≡ glyphOf corner l → Writing corner p sa sc off val r buf₀ (set buf (s - 1) v) (x - getD sa l 0) (y - getD sc l 0) from rest (s - 1)
+write-from {sa = sa} {off = off} {x = x} {cell = cell} {l = l} t e ev = rw (e ∙ source-in sa off x cell l (t .right)) (t .next _ ev)
 
 module _ {corner : Bool} {p : plans.Plan} {sa sc off val : List ℕ} {r : ℕ} {buf₀ : List ℕ} where
   pub writing-start : Full p sa sc off val → r < walksFor p sa sc → length buf₀ ≡ 128 → (cell : ℕ) → cell ≡ place (p .m) (p .ey) (p .ex) (p .ey) → Writing corner p sa sc off val r buf₀ buf₀ (p .ex) (p .ey) cell r 128

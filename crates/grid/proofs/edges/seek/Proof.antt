@@ -33,7 +33,7 @@ shared-slice-read-v c =
 
 returns : tie.Need-returns Inv-loop μ-loop
 returns c =
-    seek-here _ _ _ _ _ (c .before .before .before .before .loop .inv .1) (c .before .before .before .loop-test .taken) _ (read-is (c .before .before .before .before .before .before .pre .0) _ (omega arith) (c .before .before .source .ensures)) (c .if1 .taken)
+    (seek-here _ _ _ _ _ (c .before .before .before .before .loop .inv .1) (c .before .before .before .loop-test .taken) _ (read-is (c .before .before .before .before .before .before .pre .0) _ (omega arith) (c .before .before .source .ensures)) (c .if1 .taken), c .before .before .source .ensures)
 
 add-i : tie.Need-add-i Inv-loop μ-loop
 add-i c =
