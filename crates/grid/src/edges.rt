@@ -106,7 +106,8 @@ pub(crate) struct Pick {
     pub(crate) from: usize,
 }
 
-// The last step of number r among the walks to column x, height y.
+// The last step of number r among the walks to column x, height y. It is one of the first k; the loop is over all eight, so that the
+// compiler unrolls it.
 fn seek(
     val: &[u64],
     sa: &[usize; 8],
@@ -125,7 +126,7 @@ fn seek(
 {
     let mut left = r;
     let mut i = 0;
-    while i < k {
+    while i < 8 {
         let s = source(sa, off, i, x, at);
         let v = val[s];
         if left < v {

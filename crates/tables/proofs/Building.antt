@@ -1,6 +1,6 @@
 -- The edge of a number, written from its end over a filled table. Assumes nothing.
 --
---   seek-here, seek-more, seek-end    the loop of `seek`
+--   seek-here, seek-more, seek-end, seek-in, seek-start    the loop of `seek`
 --   unr, unr-start, unr-step     the steps of the edge of a number, the last one first
 --   write-turn, write-done       a byte written in front of the others, and all of them
 --   Writing, writing-start, written, write-as, write-from, writing-end    the loop of `spell`
@@ -10,7 +10,7 @@ use mathlib.Core.Option.{Option, some}
 use mathlib.Core.List.{List, [], _∷_, _++_, map, reverse, reverse-cons, reverse-reverse, append-nil}
 use Prim.Native.Nat.{ℕ, zero, suc, _+_, _-_, _*_, _^_, _≤_, _<_}
 use native.Mathlib.Omega.{arith}
-use native.Mathlib.Decide.{decLe}
+use native.Mathlib.Decide.{decLe, decLt}
 use native.Mathlib.Nat.{not-suc-le-zero}
 use lib.Dec.{T}
 use lib.ListN.{length, getD, drop, set, length-set, drop-of-length-le}
@@ -50,6 +50,13 @@ module _ (g : ℕ → ℕ) (i k left r : ℕ) (at : sum g i + left ≡ r) where
 
   pub seek-end : i ≤ k → k ≤ i → r < sum g k → ⊥
   seek-end h m q = let e : i ≡ k = omega arith in omega (arith, ap (sum g) e)
+
+  pub seek-in : i ≤ k → r < sum g k → i < k
+  seek-in h q = elim (decLt i k) [ yes l ↦ l | no l ↦ absurd (seek-end h (omega arith) q) ]
+
+pub seek-start : (g : ℕ → ℕ) (k r : ℕ) → r < sum g k → (0 < k) × (sum g 0 + r ≡ r)
+unfolding sum
+seek-start g k r q = let e : sum g 0 + r ≡ r = omega arith in (seek-in g 0 k r r e (omega arith) q, e)
 
 -- ---- the steps of an edge
 

@@ -1,23 +1,21 @@
 use mathlib.Core.Path.{_≡_}
-use Prim.Native.Nat.{_+_, _-_, _≤_}
+use Prim.Native.Nat.{_+_, _-_, _<_}
 use native.Mathlib.Omega.{arith}
 use Rattle.howmany.specs.Sum.{sum}
 use Rattle.tables.specs.Form.{via}
 use Rattle.tables.proofs.Numbers.{read-in, read-is}
-use Rattle.tables.proofs.Building.{seek-here, seek-more, seek-end}
+use Rattle.tables.proofs.Building.{seek-here, seek-more, seek-in, seek-start}
 use Rattle.grid.proofs.edges.seek.Statement.{statement}
 use Rattle.grid.proofs.edges.seek.Tie as tie
 
 abbrev Inv-loop : tie.InvT-loop
-Inv-loop val sa sc off k f x y p r left₀ i₀ left i = (i ≤ k) × (sum (via k f sa sc x y) i + left ≡ r)
+Inv-loop val sa sc off k f x y p r left₀ i₀ left i = (i < k) × (sum (via k f sa sc x y) i + left ≡ r)
 
 abbrev μ-loop : tie.MeasureT-loop
-μ-loop val sa sc off k f x y p r left₀ i₀ left i = k - i
+μ-loop val sa sc off k f x y p r left₀ i₀ left i = 8 - i
 
 loop-holds : tie.Need-loop-holds Inv-loop μ-loop
-unfolding sum
-loop-holds c =
-    (omega arith, omega arith)
+loop-holds c = seek-start _ _ _ (c .before .pre .1)
 
 source-requires : tie.Need-source-requires Inv-loop μ-loop
 source-requires c κs =
@@ -33,7 +31,7 @@ shared-slice-read-v c =
 
 returns : tie.Need-returns Inv-loop μ-loop
 returns c =
-    (seek-here _ _ _ _ _ (c .before .before .before .before .loop .inv .1) (c .before .before .before .loop-test .taken) _ (read-is (c .before .before .before .before .before .before .pre .0) _ (omega arith) (c .before .before .source .ensures)) (c .if1 .taken), c .before .before .source .ensures)
+    (seek-here _ _ _ _ _ (c .before .before .before .before .loop .inv .1) (c .before .before .before .before .loop .inv .0) _ (read-is (c .before .before .before .before .before .before .pre .0) _ (omega arith) (c .before .before .source .ensures)) (c .if1 .taken), c .before .before .source .ensures)
 
 add-i : tie.Need-add-i Inv-loop μ-loop
 add-i c =
@@ -45,11 +43,14 @@ loop-less c =
 
 loop-again : tie.Need-loop-again Inv-loop μ-loop
 loop-again c =
-    (omega arith, seek-more _ _ _ _ _ (c .before .before .before .before .loop .inv .1) (c .before .before .before .loop-test .taken) _ (read-is (c .before .before .before .before .before .before .pre .0) _ (omega arith) (c .before .before .source .ensures)) (c .if1 .left))
+    let w = c .before .before .before .before .loop .inv in
+    let p = c .before .before .before .before .before .before .pre in
+    let m = seek-more _ _ _ _ _ (w .1) (w .0) _ (read-is (p .0) _ (w .0) (c .before .before .source .ensures)) (c .if1 .left) in
+    (seek-in _ _ _ _ _ m (omega arith) (p .1), m)
 
 returns-2 : tie.Need-returns-2 Inv-loop μ-loop
 returns-2 c =
-    absurd (seek-end _ _ _ _ _ (c .before .loop .inv .1) (c .before .loop .inv .0) (c .loop-test .left) (c .before .before .before .pre .1))
+    absurd (omega (arith, c .before .before .before .pre .0 .most))
 
 pub seek-spec : {M : Type 1} → statement M
 seek-spec =
