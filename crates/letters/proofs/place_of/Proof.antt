@@ -1,3 +1,4 @@
+-- `letters::place_of` meets its contract, branch by branch. Assumes nothing.
 use mathlib.Core.Path.{ap, _∙_}
 use Prim.Native.Nat.{ℕ, _-_}
 use Rattle.letters.proofs.Glyphs.{place-n, place-e, place-d, place-no, place-low, place-high, place-digit}

@@ -1,3 +1,4 @@
+-- `grid::column::column4` meets its contract: each turn sums one cell more. Assumes nothing.
 use Prim.Native.Nat.{_+_, _≤_, _<_, _-_, _*_, _^_}
 use mathlib.Core.Path.{_≡_, refl}
 use native.Mathlib.Omega.{arith}

@@ -1,3 +1,4 @@
+-- `grid::column::is_small` meets its contract: the sum is 0 only if no cell so far has a bit above 2^61. Assumes nothing.
 use Prim.Native.Nat.{ℕ, _+_, _*_, _-_, _≤_, _<_}
 use mathlib.Core.Path.{_≡_}
 use native.Mathlib.Omega.{arith}

@@ -1,3 +1,4 @@
+-- `grid::column::source` meets its contract: by the test that led there. Assumes nothing.
 use borrow.Author.Needs.{needs}
 use native.Mathlib.Omega.{arith}
 use borrow.Author.Tests.{lt-ltb, le-ltb}

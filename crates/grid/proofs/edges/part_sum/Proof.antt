@@ -1,3 +1,4 @@
+-- `grid::edges::part_sum` meets its contract: each turn adds what one step more brings. Assumes nothing.
 use mathlib.Core.Path.{_≡_, refl, ap, _∙_}
 use Prim.Native.Nat.{_-_, _≤_}
 use native.Mathlib.Omega.{arith}

@@ -1,3 +1,4 @@
+-- `grid::edges::seek` meets its contract: what is left is below what the steps not yet passed bring. Assumes nothing.
 use mathlib.Core.Path.{_≡_}
 use Prim.Native.Nat.{_+_, _-_, _<_}
 use native.Mathlib.Omega.{arith}

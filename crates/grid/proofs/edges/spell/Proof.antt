@@ -1,3 +1,4 @@
+-- `grid::edges::spell` meets its contract: at each step what is written so far and what is left make up the edge. Assumes nothing.
 use mathlib.Core.Path.{_≡_, refl}
 use mathlib.Core.Bool.{false}
 use lib.ListN.{length, length-set}

@@ -1,3 +1,4 @@
+-- `grid::flags::cell` meets its contract: by the flag. Assumes nothing.
 use Rattle.tables.proofs.Laws.{cell-zero, cell-over}
 use mathlib.Core.Path.{sym}
 use borrow.Author.Needs.{needs}

@@ -1,3 +1,4 @@
+-- `grid::flags::put` meets its contract: value and flag of the cell, for each answer; no other cell changes. Assumes nothing.
 use mathlib.Core.Path.{_∙_, sym, refl}
 use native.Mathlib.Omega.{arith}
 use Rattle.tables.proofs.Laws.{cell-zero, cell-over, put-is}

@@ -1,3 +1,4 @@
+-- `grid::flags::total` meets its contract: the sum so far fits, or the whole doesn't. Assumes nothing.
 use mathlib.Core.Path.{_≡_, refl}
 use Prim.Native.Nat.{_≤_, _-_, _^_, _<_}
 use native.Mathlib.Omega.{arith}

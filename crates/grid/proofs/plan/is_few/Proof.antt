@@ -1,3 +1,4 @@
+-- `grid::plan::is_few` meets its contract: each of the last four steps is too far. Assumes nothing.
 use Rattle.tables.proofs.Prepare.{few-not, few-yes}
 use borrow.Author.Needs.{needs}
 use Rattle.grid.proofs.plan.is_few.Statement.{statement}

@@ -1,3 +1,4 @@
+-- `grid::plan::steeper` meets its contract: six is a multiple of every step's columns. Assumes nothing.
 use native.Mathlib.Omega.{arith}
 use Rattle.tables.proofs.Prepare.{slope-by}
 use borrow.Author.Needs.{needs}

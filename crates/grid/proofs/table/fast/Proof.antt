@@ -1,3 +1,4 @@
+-- `grid::table::fast` meets its contract: column by column, while the next one needs no test. Assumes nothing.
 use mathlib.Core.Path.{_≡_, refl}
 use Prim.Native.Nat.{_+_, _≤_, _-_}
 use native.Mathlib.Omega.{arith}

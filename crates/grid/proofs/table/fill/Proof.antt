@@ -1,3 +1,4 @@
+-- `grid::table::fill` meets its contract: the columns that need no test, and then those that do. Assumes nothing.
 use native.Mathlib.Omega.{arith}
 use mathlib.Core.Path.{refl}
 use Rattle.tables.proofs.Phases.{ready-len, place-sum, end-placed, end-room, got-filled}

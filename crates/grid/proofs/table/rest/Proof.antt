@@ -1,3 +1,4 @@
+-- `grid::table::rest` meets its contract: column by column, with flags that are all 0 at first. Assumes nothing.
 use mathlib.Core.Path.{_≡_, refl}
 use Prim.Native.Nat.{_+_, _≤_, _-_}
 use native.Mathlib.Omega.{arith}

@@ -1,3 +1,4 @@
+-- `grid::table::slow` meets its contract: height by height. Assumes nothing.
 use mathlib.Core.Path.{_≡_, refl}
 use Prim.Native.Nat.{_≤_, _-_}
 use native.Mathlib.Omega.{arith}

@@ -1,3 +1,4 @@
+-- `grid::table::turn` meets its contract: a column with no height that matters is left as it is. Assumes nothing.
 use native.Mathlib.Omega.{arith}
 use Rattle.tables.proofs.Walls.{span-low, span-high}
 use Rattle.tables.proofs.Phases.{turn-none}

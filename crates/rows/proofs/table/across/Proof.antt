@@ -1,3 +1,4 @@
+-- `rows::table::across` meets its contract: by the test that led there. Assumes nothing.
 use mathlib.Core.Path.{refl}
 use borrow.Author.Needs.{needs}
 use Rattle.rows.proofs.table.across.Statement.{statement}

@@ -1,3 +1,4 @@
+-- `rows::table::first` meets its contract: by the test that led there. Assumes nothing.
 use mathlib.Core.Path.{refl}
 use borrow.Author.Needs.{needs}
 use borrow.Author.Tests.{eq-eqb, ne-eqb}
