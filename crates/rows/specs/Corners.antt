@@ -37,6 +37,7 @@ cornerOf j = record { n = j .n; m = j .m - 128; diagonal = eqb (j .family) 3 }
 abbrev pub cornerJob : Corner → rules.Job
 cornerJob c = pick (c .diagonal) (delannoy (c .n) (c .m)) (north-east (c .n) (c .m))
 
+-- "The answer is a count or a refusal number, never both."
 abbrev pub cornerCount : Corner → Answer ℕ
 cornerCount c = cornerAnswer (c .diagonal) (c .n) (c .m)
 
