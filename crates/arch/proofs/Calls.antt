@@ -1,109 +1,101 @@
--- The calls on a block: what the crate's own results say of the block's job is document 01's answer. One argument for all three families.
+-- The answers of a known job: what the theory of arches over (d, v) says is document 01's answer. One argument for all three families.
 -- Assumes nothing.
 --
---   Sort family d v              what the family has from the theory of arches over (d, v)
---   dyck-sort, schroder-sort, motzkin-sort
---   count-refused, count-fits    the count's answer
---   number-refused, number-fits  the number's
---   build-refused, build-fits    the edges'
-use mathlib.Core.Path.{_≡_, refl, sym, ap, ap₂, _∙_}
+--   Sort family d v           what the family has from the theory of arches over (d, v)
+--   dyck-sort, schroder-sort, motzkin-sort; sort-of: the one over (d, v)
+--   edgeBy, edgesFor          the edge of a number, and the edges of a list of numbers or refusal 6, by that theory
+--   count-of, table-count     the count, worked out and from a table
+--   rank-of, numbers-of       the number of a string that is an edge, and the numbers of a list
+--   edges-of                  the edges of a list of numbers
+use mathlib.Core.Path.{_≡_, refl, sym, ap, ap₂, _∙_, subst}
 use mathlib.Core.Bool.{Bool, true, false}
 use mathlib.Core.List.{List, map}
-use Prim.Native.Nat.{ℕ}
-use Rattle.howmany.specs.Choose.{pick}
+use Prim.Native.Nat.{ℕ, zero, suc, _^_, _≤_, _<_}
+use native.Mathlib.Omega.{arith}
+use lib.Dec.{leb}
+use lib.ListN.{getD}
+use borrow.Author.Tests.{le-leb}
 use Rattle.howmany.proofs.Choices.{is-true, is-false}
 use Rattle.arches.specs.Counts.{count}
 use Rattle.arches.specs.Trees.{number, build, print, treeOf}
-use Rattle.rules.specs.Points.{origin}
+use Rattle.arches.proofs.Limits.{Family}
 use Rattle.rules.specs.Jobs.{Job}
 use Rattle.rules.specs.Jobs.Job.{dyck, schroder, motzkin}
-use Rattle.rules.specs.Valid.{walks, Valid}
+use Rattle.rules.specs.Valid.{isEdge, Valid}
 use Rattle.rules.specs.Counts.{C, S, M, countOf}
 use Rattle.rules.specs.Numbers.{numberOf, edgeOf}
-use Rattle.rules.specs.Refusals.{Answer, check, andThen}
-use Rattle.rules.specs.Refusals.Refusal.{not-an-edge, beyond, kind}
-use Rattle.rules.specs.Refusals.Answer.{accepted, refused}
-use Rattle.rules.specs.Blocks.{familyOf, square}
-use Rattle.rules.specs.Answers.{knownJob, countAnswer, numberAnswer}
-use Rattle.rules.specs.Questions.{allBelow, edgesAnswer}
+use Rattle.rules.specs.Refusals.{Answer, check}
+use Rattle.rules.specs.Refusals.Refusal.{beyond}
+use Rattle.rules.specs.Refusals.Answer.{accepted}
+use Rattle.rules.specs.Answers.{most}
+use Rattle.rules.specs.Questions.{allBelow}
 use Rattle.rules.proofs.ArchPaths.{Arched, valid-walk, walk-valid, dyck-arched, schroder-arched, motzkin-arched}
-use Rattle.job.specs.Replies.{reply}
-use Rattle.job.specs.Replies.Reply.{value, refusal}
-use Rattle.job.specs.declared.Built.{Built}
-use Rattle.job.specs.declared.Built.the-variants.{Refused}
-use Rattle.arch.specs.Answers.{Numbered}
-use Rattle.arch.specs.Calls.{forArch, RefusedAs, Fits, answerSays, edgesFor}
-use Rattle.lines.specs.Lines.{lined, LinedAs}
-use Rattle.lines.proofs.Lining.{lined-refused}
+use Rattle.job.specs.Replies.Reply.{value}
+use Rattle.job.specs.declared.Counted.the-variants.{Count}
+use Rattle.lines.specs.declared.Rank.{Rank}
+use Rattle.lines.specs.declared.Rank.the-variants.{At, NoEdge}
+use Rattle.lines.specs.declared.Ranked.the-variants.{Upto}
+use Rattle.lines.specs.Known.{CountsOf, NumbersOf, edgesOf}
+use Rattle.lines.proofs.Ranking.{Ranks, ranked-of}
+use Rattle.arch.specs.Answers.{archJob, Numbered, RankOf}
+use Rattle.arch.specs.Table.{Table}
+use Rattle.arch.proofs.Tables.{table-less}
 
-pub record Sort (family : ℕ → Job) (d : Bool) (v : ℕ) : Type 0 where
-  pub arched : Arched family d v
-  pub counts : (n : ℕ) → countOf (family n) ≡ count d v n
-  pub numbers : (n : ℕ) (s : List ℕ) → numberOf (family n) s ≡ number d v (treeOf d v s)
-  pub edges : (n r : ℕ) → edgeOf (family n) r ≡ print d v (build d v n n r)
+record Sort (family : ℕ → Job) (d : Bool) (v : ℕ) : Type 0 where
+  arched : Arched family d v
+  counts : (n : ℕ) → countOf (family n) ≡ count d v n
+  numbers : (n : ℕ) (s : List ℕ) → numberOf (family n) s ≡ number d v (treeOf d v s)
+  edges : (n r : ℕ) → edgeOf (family n) r ≡ print d v (build d v n n r)
 
-pub dyck-sort : Sort dyck false 0
+dyck-sort : Sort dyck false 0
 unfolding countOf C numberOf edgeOf
 dyck-sort = record { arched = dyck-arched; counts = λ n. refl; numbers = λ n s. refl; edges = λ n r. refl }
 
-pub schroder-sort : Sort schroder true 0
+schroder-sort : Sort schroder true 0
 unfolding countOf S numberOf edgeOf
 schroder-sort = record { arched = schroder-arched; counts = λ n. refl; numbers = λ n s. refl; edges = λ n r. refl }
 
-pub motzkin-sort : Sort motzkin true 1
+motzkin-sort : Sort motzkin true 1
 unfolding countOf M numberOf edgeOf
 motzkin-sort = record { arched = motzkin-arched; counts = λ n. refl; numbers = λ n s. refl; edges = λ n r. refl }
 
--- ---- the answers on a block
+sort-of : (d : Bool) (v : ℕ) → Family d v → Sort (archJob d v) d v
+sort-of false v e = subst (Sort dyck false) (sym e) dyck-sort
+sort-of true zero l = schroder-sort
+sort-of true (suc zero) l = motzkin-sort
+sort-of true (suc (suc v)) l = absurd (omega arith)
 
-module _ (b : List ℕ) where
-  for-then : {A B : Type 0} (a : Answer A) (f : A → Answer B) → forArch b (andThen a f) ≡ andThen (forArch b a) f
-  for-then {A} {B} a f = go (square (familyOf b))
-    where
-      go : (t : Bool) → pick t (andThen a f) (refused kind) ≡ andThen (pick t a (refused kind)) f
-      go true = refl
-      go false = refl
+abbrev pub edgeBy : Bool → ℕ → ℕ → ℕ → List ℕ
+edgeBy d v n r = print d v (build d v n n r)
 
-  then-refused : {B : Type 0} {r : ℕ} (f : Job → Answer B) (k : RefusedAs b r) → forArch b (andThen (knownJob b) f) ≡ refused (k .refusal)
-  then-refused {B} f k = for-then (knownJob b) f ∙ ap (λ (a : Answer Job). andThen a f) (k .answer)
+abbrev pub edgesFor : Bool → ℕ → ℕ → List ℕ → Answer (List (List ℕ))
+edgesFor d v n ns = check (allBelow (count d v n) ns) beyond (accepted (map (edgeBy d v n) ns))
 
-  then-fits : {B : Type 0} {J : Job} {n most : ℕ} (f : Job → Answer B) → Fits b J n most → forArch b (andThen (knownJob b) f) ≡ f J
-  then-fits {B} f k = for-then (knownJob b) f ∙ ap (λ (a : Answer Job). andThen a f) (k .answer)
+module _ (d : Bool) (v : ℕ) (f : Family d v) (n : ℕ) (l : count d v n < 2 ^ 64) where
+  fits : leb (countOf (archJob d v n)) most ≡ true
+  fits = le-leb (countOf (archJob d v n)) most (omega (arith, sort-of d v f .counts n))
 
-  refused-says : {r : ℕ} (k : RefusedAs b r) (a : Answer ℕ) → a ≡ refused (k .refusal) → refusal r ≡ reply a
-  refused-says k a e = ap refusal (k .number) ∙ sym (ap reply e)
+  pub count-of : (c : ℕ) → c ≡ count d v n → CountsOf (archJob d v n) (Count c)
+  count-of c e = rw fits (ap value (e ∙ sym (sort-of d v f .counts n)))
 
-  pub count-refused : {r : ℕ} → RefusedAs b r → refusal r ≡ reply (forArch b (countAnswer b))
-  unfolding countAnswer
-  count-refused k = refused-says k (forArch b (countAnswer b)) (then-refused (λ J. accepted (countOf J)) k)
+module _ {d : Bool} {v n : ℕ} {table : List ℕ} (full : Table d v n table) where
+  pub table-count : (m : ℕ) → m ≤ n → CountsOf (archJob d v m) (Count (getD table m 0))
+  table-count m h = count-of d v (full .family) m (table-less d v n m table h full .fits) (getD table m 0) (full .full m h)
 
-  pub number-refused : {r : ℕ} (s : List ℕ) → RefusedAs b r → refusal r ≡ reply (forArch b (numberAnswer b s))
-  unfolding numberAnswer
-  number-refused s k = refused-says k (forArch b (numberAnswer b s)) (then-refused (λ J. check (walks J origin s) not-an-edge (accepted (numberOf J s))) k)
+  sort : Sort (archJob d v) d v
+  sort = sort-of d v (full .family)
 
-  pub build-refused : {r : ℕ} (ns steps ends : List ℕ) → RefusedAs b r → LinedAs (lined (forArch b (edgesAnswer b ns)) steps ends) (Refused r) steps ends
-  unfolding edgesAnswer
-  build-refused ns steps ends k =
-      lined-refused (forArch b (edgesAnswer b ns)) (k .refusal) _ steps ends
-      (then-refused (λ J. check (allBelow (countOf J) ns) beyond (accepted (map (edgeOf J) ns))) k) (k .number)
+  pub rank-of : (s : List ℕ) (r : Rank) → Numbered d v n s r → RankOf (archJob d v n) s r
+  unfolding Valid
+  rank-of s (At r) w = (is-true (isEdge (archJob d v n) s) (walk-valid (archJob d v) d v (sort .arched) n s (w .walk)), w .numbered ∙ sym (sort .numbers n s))
+  rank-of s NoEdge w = is-false (isEdge (archJob d v n) s) (λ t. w (valid-walk (archJob d v) d v (sort .arched) n s t))
 
-  module _ {family : ℕ → Job} {d : Bool} {v n most : ℕ} (sort : Sort family d v) (k : Fits b (family n) n most) where
-    pub count-fits : (c : ℕ) → c ≡ count d v n → value c ≡ reply (forArch b (countAnswer b))
-    unfolding countAnswer
-    count-fits c e = ap value (e ∙ sym (sort .counts n)) ∙ sym (ap reply (then-fits (λ J. accepted (countOf J)) k))
+  pub numbers-of : (es : List (List ℕ)) (before after : List ℕ) (k : ℕ) → Ranks (isEdge (archJob d v n)) (numberOf (archJob d v n)) es before after k
+      → NumbersOf (archJob d v n) es before after (Upto k)
+  numbers-of es before after k w =
+      rw (fits d v (full .family) n (full .fits)) (ranked-of (isEdge (archJob d v n)) (numberOf (archJob d v n)) es before after k w)
 
-    pub number-fits : (good : Bool) (r : ℕ) (s : List ℕ) → Numbered good d v n r s → answerSays good r ≡ reply (forArch b (numberAnswer b s))
-    unfolding numberAnswer Valid
-    number-fits good r s w = ap reply (sym (then-fits (λ J. check (walks J origin s) not-an-edge (accepted (numberOf J s))) k ∙ go good w))
-      where
-        go : (good : Bool) → Numbered good d v n r s → check (walks (family n) origin s) not-an-edge (accepted (numberOf (family n) s)) ≡ check good not-an-edge (accepted r)
-        go true w = ap (λ (t : Bool). check t not-an-edge (accepted (numberOf (family n) s))) (is-true (walks (family n) origin s) (walk-valid family d v (sort .arched) n s (w .walk))) ∙ ap accepted (sort .numbers n s ∙ sym (w .numbered))
-        go false w = ap (λ (t : Bool). check t not-an-edge (accepted (numberOf (family n) s))) (is-false (walks (family n) origin s) (λ t. w (valid-walk family d v (sort .arched) n s t)))
-
-    pub build-fits : (ns steps ends : List ℕ) (a : Built) (s t : List ℕ) → LinedAs (lined (edgesFor d v n ns) steps ends) a s t → LinedAs (lined (forArch b (edgesAnswer b ns)) steps ends) a s t
-    unfolding edgesAnswer
-    build-fits ns steps ends a s t w =
-        let e : forArch b (edgesAnswer b ns) ≡ edgesFor d v n ns =
-        then-fits (λ J. check (allBelow (countOf J) ns) beyond (accepted (map (edgeOf J) ns))) k
-        ∙ ap₂ (λ (c : ℕ) (g : ℕ → List ℕ). check (allBelow c ns) beyond (accepted (map g ns))) (sort .counts n) (λ i r. sort .edges n r i) in
-        rw e w
+  pub edges-of : (ns : List ℕ) → edgesOf (archJob d v n) ns ≡ edgesFor d v n ns
+  edges-of ns =
+      rw (fits d v (full .family) n (full .fits))
+      (ap₂ (λ (c : ℕ) (g : ℕ → List ℕ). check (allBelow c ns) beyond (accepted (map g ns))) (sort .counts n) (λ i r. sort .edges n r i))

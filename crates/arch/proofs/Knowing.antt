@@ -3,10 +3,10 @@
 --
 --   jobBy f n                    the job of family f, if that is 2, 4 or 5
 --   by-dyck, by-schroder, by-motzkin        which it is, by the code's tests
---   Limit family most            the counts up to most fit 64 bits, and no others
+--   Limit family limit           the counts up to limit fit 64 bits, and no others
 --   dyck-most, schroder-most, motzkin-most  the three limits
---   other-family, told-refused   refusal 11, and refusals 1, 2 and 3
---   kept-fits, kept-over         the job's count fits, or refusal 4
+--   Held b room j                the family is 2, 4 or 5, there is room, and j is the block's job
+--   held-fits, held-over         its count fits, or refusal 4
 use mathlib.Core.Path.{_≡_, refl, sym, ap, _∙_, subst}
 use mathlib.Core.Bool.{Bool, true, false}
 use mathlib.Core.List.{List}
@@ -17,18 +17,18 @@ use Rattle.howmany.specs.Choose.{pick}
 use Rattle.rules.specs.Jobs as rules
 use Rattle.rules.specs.Jobs.Job.{dyck, schroder, motzkin}
 use Rattle.rules.specs.Counts.{countOf}
-use Rattle.rules.specs.Refusals.{Answer, refusalNumber}
-use Rattle.rules.specs.Refusals.Refusal.{over, kind}
-use Rattle.rules.specs.Refusals.Answer.{accepted, refused}
+use Rattle.rules.specs.Refusals.{refusalNumber}
+use Rattle.rules.specs.Refusals.Refusal.{over}
+use Rattle.rules.specs.Refusals.Answer.{accepted}
 use Rattle.rules.specs.Blocks.{familyOf, square, jobAnswer}
-use Rattle.rules.specs.Answers.{knownJob}
-use Rattle.rules.proofs.Answering.{known-told, known-over, known-fits}
+use Rattle.rules.proofs.Answering.{known-over}
 use Rattle.rules.proofs.Recurrences.{C-limit, S-limit, M-limit}
 use Rattle.job.specs.declared.Job.{Job}
 use Rattle.job.specs.Stands.{Stands}
 use Rattle.job.specs.Stands.Stands.{as-north-east, as-dyck, as-delannoy, as-schroder, as-motzkin, as-open, as-fenced}
-use Rattle.job.proofs.Standing.{Kept, Told}
-use Rattle.arch.specs.Calls.{forArch, RefusedAs, Fits}
+use Rattle.job.proofs.Standing.{Kept}
+use Rattle.lines.specs.Known.{Refusing}
+use Rattle.arch.specs.Calls.{Within}
 
 abbrev pub jobBy : ℕ → ℕ → rules.Job
 jobBy f n = pick (eqb f 2) (dyck n) (pick (eqb f 4) (schroder n) (motzkin n))
@@ -55,7 +55,7 @@ stands-by (as-open e l) h = absurd (not-square e refl h)
 stands-by (as-fenced e l) h = absurd (not-square e refl h)
 
 abbrev pub Limit : (ℕ → rules.Job) → ℕ → Type 0
-Limit family most = (n : ℕ) → (n ≤ most → countOf (family n) < 2 ^ 64) × (most < n → 2 ^ 64 ≤ countOf (family n))
+Limit family limit = (n : ℕ) → (n ≤ limit → countOf (family n) < 2 ^ 64) × (limit < n → 2 ^ 64 ≤ countOf (family n))
 
 pub dyck-most : Limit dyck 36
 unfolding countOf
@@ -69,25 +69,24 @@ pub motzkin-most : Limit motzkin 45
 unfolding countOf
 motzkin-most n = M-limit n
 
-module _ (b : List ℕ) where
-  pub other-family : square (familyOf b) ≡ false → RefusedAs b 11
+pub record Held (b : List ℕ) (room : Bool) (j : Job) : Type 0 where
+  pub own : square (familyOf b) ≡ true
+  pub roomy : room ≡ true
+  pub kept : Kept b j
+
+module _ (b : List ℕ) (room : Bool) (j : Job) (h : Held b room j) (family : ℕ → rules.Job) (limit : ℕ) (most : Limit family limit) (same : (n : ℕ) → jobBy (j .family) n ≡ family n) where
+  job-is : jobAnswer b ≡ accepted (family (j .n))
+  job-is = h .kept .answer ∙ ap accepted (stands-by (h .kept .stands) (ap square (h .kept .family) ∙ h .own) ∙ same (j .n))
+
+  pub held-fits : j .n ≤ limit → Within b room family (j .n) limit
+  held-fits l = record { ends = record { own = h .own; roomy = h .roomy; answer = job-is }; small = l }
+
+  pub held-over : limit < j .n → Refusing (square (familyOf b)) room b 4
   unfolding refusalNumber
-  other-family e = record { refusal = kind; answer = rw e refl; number = refl }
-
-  module _ (sq : square (familyOf b) ≡ true) where
-    for-one : (a : Answer rules.Job) → knownJob b ≡ a → forArch b (knownJob b) ≡ a
-    for-one a e = ap (λ (t : Bool). pick t (knownJob b) (refused kind)) sq ∙ e
-
-    pub told-refused : (r : ℕ) → Told b r → RefusedAs b r
-    told-refused r t = record { refusal = t .refusal; answer = for-one (refused (t .refusal)) (known-told b (t .refusal) (t .answer)); number = t .number }
-
-    module _ {j : Job} (k : Kept b j) (family : ℕ → rules.Job) (most : ℕ) (limit : Limit family most) (same : (n : ℕ) → jobBy (j .family) n ≡ family n) where
-      job-is : jobAnswer b ≡ accepted (family (j .n))
-      job-is = k .answer ∙ ap accepted (stands-by (k .stands) (ap square (k .family) ∙ sq) ∙ same (j .n))
-
-      pub kept-fits : j .n ≤ most → Fits b (family (j .n)) (j .n) most
-      kept-fits l = record { answer = for-one (accepted (family (j .n))) (known-fits b (family (j .n)) job-is (limit (j .n) .0 l)); small = l }
-
-      pub kept-over : most < j .n → RefusedAs b 4
-      unfolding refusalNumber
-      kept-over l = record { refusal = over; answer = for-one (refused over) (known-over b (family (j .n)) job-is (limit (j .n) .1 l)); number = refl }
+  held-over l = record {
+    own = h .own;
+    roomy = h .roomy;
+    refusal = over;
+    answer = known-over b (family (j .n)) job-is (most (j .n) .1 l);
+    number = refl;
+  }

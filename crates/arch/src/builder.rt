@@ -5,13 +5,11 @@ ghost use lib.ListN.{length};
 ghost use Rattle.arches.specs.Counts.{count};
 ghost use Rattle.arch.specs.Table.{Table};
 ghost use Rattle.arch.specs.Answers.{Spelt, Written};
-use crate::edge::DIAGONAL;
-use crate::edge::EAST;
-use crate::edge::NORTH;
 use crate::sums::d_count;
 use crate::sums::left_over;
 use crate::sums::locate;
 use crate::sums::times;
+use job::Step;
 
 // Spells the path of number r so that it ends before `end`, and says where it begins.
 fn spell(
@@ -47,7 +45,7 @@ fn ending(
 {
     let head = d_count(table, d, v, n, n - 1);
     if r < head {
-        buf[last] = DIAGONAL;
+        buf[last] = Step::DIAGONAL;
         return spell(buf, table, d, v, last, n - 1, r);
     }
     let m = n - 1 - v;
@@ -57,9 +55,9 @@ fn ending(
     let c = table[i];
     let x = left_over(rest, c);
     let y = times(rest, c);
-    buf[last] = NORTH;
+    buf[last] = Step::NORTH;
     let east = inside(buf, table, d, v, last, m - i, y) - 1;
-    buf[east] = EAST;
+    buf[east] = Step::EAST;
     spell(buf, table, d, v, east, i, x)
 }
 

@@ -6,12 +6,9 @@ ghost use lib.ListN.{length};
 ghost use Rattle.arch.specs.Table.{Table};
 ghost use Rattle.arch.specs.Answers.{Numbered};
 ghost use Rattle.arch.specs.Reading.{PathGot, ArchGot};
-use crate::edge::Answer;
-use crate::edge::DIAGONAL;
-use crate::edge::EAST;
-use crate::edge::NO_EDGE;
-use crate::edge::NORTH;
 use crate::sums::lower;
+use job::Step;
+use lines::Rank;
 
 // What is read: where in s it ends, and its size and number.
 struct Part {
@@ -39,7 +36,7 @@ fn read_path(s: &[u8], table: &[u64], v: usize, from: usize, room: usize) -> Par
     let mut number: u64 = 0;
     while next < s.len() {
         let b = s[next];
-        if b == EAST {
+        if b == Step::EAST {
             let p = read_arch(s, table, v, next + 1, room - size);
             if !p.good {
                 return NO_PATH;
@@ -49,7 +46,7 @@ fn read_path(s: &[u8], table: &[u64], v: usize, from: usize, room: usize) -> Par
             size = m + v + 1;
             next = p.next;
         } else {
-            if b != DIAGONAL {
+            if b != Step::DIAGONAL {
                 break;
             }
             if size == room {
@@ -77,7 +74,7 @@ fn read_arch(s: &[u8], table: &[u64], v: usize, from: usize, room: usize) -> Par
         return NO_PATH;
     }
     if from < s.len() {
-        if s[from] == NORTH {
+        if s[from] == Step::NORTH {
             return Part {
                 good: true,
                 next: from + 1,
@@ -94,7 +91,7 @@ fn read_arch(s: &[u8], table: &[u64], v: usize, from: usize, room: usize) -> Par
     if s.len() <= e {
         return NO_PATH;
     }
-    if s[e] != NORTH {
+    if s[e] != Step::NORTH {
         return NO_PATH;
     }
     Part {
@@ -106,22 +103,19 @@ fn read_arch(s: &[u8], table: &[u64], v: usize, from: usize, room: usize) -> Par
 }
 
 // The number of the edge s, or that it is none.
-pub(crate) fn number(s: &[u8], table: &[u64], v: usize, n: usize) -> Answer
+pub(crate) fn number(s: &[u8], table: &[u64], v: usize, n: usize) -> Rank
     requires { ⌜ Table true v n (now table) ⌝ }
-    ensures { λ r. ⌜ Numbered (r .good) true v n (r .number) (now (s .entry)) ⌝ }
+    ensures { λ r. ⌜ Numbered true v n (now (s .entry)) r ⌝ }
 {
     let p = read_path(s, table, v, 0, n);
     if !p.good {
-        return NO_EDGE;
+        return Rank::NoEdge;
     }
     if p.next != s.len() {
-        return NO_EDGE;
+        return Rank::NoEdge;
     }
     if p.size != n {
-        return NO_EDGE;
+        return Rank::NoEdge;
     }
-    Answer {
-        good: true,
-        number: p.number,
-    }
+    Rank::At(p.number)
 }

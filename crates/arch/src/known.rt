@@ -1,25 +1,29 @@
-// What is known of a block before anything is worked out: its family and n, or refusal 11, 1, 2, 3 or 4.
+// What is known of a block before anything is worked out.
 ghost use Rattle.arch.specs.Calls.{KnownIs};
 use crate::counts::DYCK_LIMIT;
 use crate::counts::MOTZKIN_LIMIT;
 use crate::counts::SCHRODER_LIMIT;
 use job::Job;
-use job::is_square;
 
-// The job whose count fits, by its family and n, or a refusal number.
+// That the family isn't 2, 4 or 5; that the lent slices have no room; a refusal number; or the family and n, with a count that fits.
 pub(crate) enum Known {
+    NotMine,
+    NoRoom,
+    Refused(u8),
     Dyck(usize),
     Schroder(usize),
     Motzkin(usize),
-    Refused(u8),
 }
 
-// "4 Over: the count exceeds 18446744073709551615", after refusals 11, which the families of other crates get here, and 1, 2 and 3.
-pub(crate) fn known_job(block: &[u8]) -> Known
-    ensures { λ r. ⌜ KnownIs (now (block .entry)) r ⌝ }
+// The family first, then the room, then refusals 1, 2 and 3, then "4 Over", which n alone says.
+pub(crate) fn known_of(block: &[u8], room: bool) -> Known
+    ensures { λ r. ⌜ KnownIs (now (block .entry)) room r ⌝ }
 {
-    if !is_square(block) {
-        return Known::Refused(11);
+    if !job::is_square(job::family_of(block)) {
+        return Known::NotMine;
+    }
+    if !room {
+        return Known::NoRoom;
     }
     let made = Job::of(block);
     if made.refusal != 0 {

@@ -1,95 +1,105 @@
 // Families 2, 4 and 5 over one theory: d says whether the family has `D`, and an arch spans v + 1.
-ghost use mathlib.Core.Path.{_≡_};
-ghost use Rattle.rules.specs.Answers.{countAnswer, numberAnswer};
+ghost use lib.ListN.{length};
+ghost use Rattle.rules.specs.Blocks.{familyOf, square};
+ghost use Rattle.rules.specs.Answers.{countAnswer};
 ghost use Rattle.rules.specs.Questions.{edgesAnswer};
-ghost use Rattle.job.specs.Replies.{reply, countSays, numberSays};
-ghost use Rattle.lines.specs.Lines.{lines, LinedAs};
-ghost use Rattle.arch.specs.Calls.{forArch, answerSays};
-use crate::edge::Answer;
-use crate::known::Known;
-use job::Built;
-use job::Counted;
-use job::Numbered;
+ghost use Rattle.lines.specs.Lines.{cutFrom, lines};
+ghost use Rattle.lines.specs.Ranks.{ranks, ranksAnswer};
+ghost use Rattle.lines.specs.Mine.{CountsFor, RanksFor, LinesFor};
 
-mod edge; // edge.rt: the letters, and the answer to number
+mod builder; // builder.rt: the edge of a number
 mod counts; // counts.rt: how far the counts fit, and the counts of families 4 and 5
 mod dyck; // dyck.rt: the counts of family 2, by its recursion
-mod sums; // sums.rt: the products before a number, and where a number falls among them
 mod forward; // forward.rt: numbers for families 4 and 5, read from the first step
-mod reverse; // reverse.rt: numbers for family 2, read from the last step
-mod builder; // builder.rt: the edge of a number
 mod known; // known.rt: a block's family and n, or its refusal
+mod numbering; // numbering.rt: the numbers of a list of edges, written
 mod output; // output.rt: the edges of a list of numbers, written
+mod reverse; // reverse.rt: numbers for family 2, read from the last step
+mod sums; // sums.rt: the products before a number, and where a number falls among them
+
+use job::Built;
+use job::Counted;
+use known::Known;
+use known::known_of;
+use lines::Building;
+use lines::Counting;
+use lines::Numbering;
+use lines::Ranked;
+use lines::Wrote;
+use numbering::number_each;
+use output::write_edges;
 
 // "Counts": C, S or M.
-pub fn count(block: &[u8]) -> Counted
-    ensures { λ r. ⌜ countSays r ≡ reply (forArch (now (block .entry)) (countAnswer (now (block .entry)))) ⌝ }
+pub fn count(block: &[u8]) -> Counting
+    ensures { λ r. ⌜ CountsFor (square (familyOf (now (block .entry)))) (countAnswer (now (block .entry))) r ⌝ }
 {
-    match known::known_job(block) {
-        Known::Dyck(n) => Counted::Count(dyck::dyck_count(n)),
+    match known_of(block, true) {
+        Known::NotMine => Counting::NotMine,
+        Known::NoRoom => Counting::NotMine,
+        Known::Refused(r) => Counting::Mine(Counted::Refused(r)),
+        Known::Dyck(n) => Counting::Mine(Counted::Count(dyck::dyck_count(n))),
         Known::Schroder(n) => {
             let table = counts::schroder_counts();
-            Counted::Count(table[n])
+            Counting::Mine(Counted::Count(table[n]))
         }
         Known::Motzkin(n) => {
             let table = counts::motzkin_counts();
-            Counted::Count(table[n])
+            Counting::Mine(Counted::Count(table[n]))
         }
-        Known::Refused(r) => Counted::Refused(r),
     }
 }
 
-// "5 Not an edge", or the number.
-fn told(a: Answer) -> Numbered
-    ensures { λ r. ⌜ numberSays r ≡ answerSays (a .good) (a .number) ⌝ }
+// "Order and numbers", families 2, 4, 5: the numbers of the edges of one lent slice, by where the first begins and each ends.
+pub fn number_all(
+    block: &[u8],
+    bytes: &[u8],
+    from: usize,
+    ends: &[usize],
+    numbers: &mut [u64],
+) -> Numbering
+    ensures { λ r. ⌜ RanksFor (square (familyOf (now (block .entry)))) (ranks (ranksAnswer (now (block .entry)) (cutFrom from (now (ends .entry)) (now (bytes .entry)))) (length (now (ends .entry))) (now (numbers .entry))) r (now (numbers .entry)) (now (numbers .exit)) ⌝ }
 {
-    if a.good {
-        return Numbered::Number(a.number);
-    }
-    Numbered::Refused(5)
-}
-
-// "Order and numbers", families 2, 4, 5: the number of an edge.
-pub fn number(block: &[u8], edge: &[u8]) -> Numbered
-    ensures { λ r. ⌜ numberSays r ≡ reply (forArch (now (block .entry)) (numberAnswer (now (block .entry)) (now (edge .entry)))) ⌝ }
-{
-    match known::known_job(block) {
+    match known_of(block, ends.len() <= numbers.len()) {
+        Known::NotMine => Numbering::NotMine,
+        Known::NoRoom => Numbering::Mine(Ranked::NoRoom),
+        Known::Refused(r) => Numbering::Mine(Ranked::Refused(r)),
         Known::Dyck(n) => {
             let table = dyck::dyck_counts(n);
-            told(reverse::number(edge, &table, n))
+            Numbering::Mine(number_each(&table, false, 0, n, bytes, from, ends, numbers))
         }
         Known::Schroder(n) => {
             let table = counts::schroder_counts();
-            told(forward::number(edge, &table, 0, n))
+            Numbering::Mine(number_each(&table, true, 0, n, bytes, from, ends, numbers))
         }
         Known::Motzkin(n) => {
             let table = counts::motzkin_counts();
-            told(forward::number(edge, &table, 1, n))
+            Numbering::Mine(number_each(&table, true, 1, n, bytes, from, ends, numbers))
         }
-        Known::Refused(r) => Numbered::Refused(r),
     }
 }
 
 // "Order and numbers", families 2, 4, 5: the edges of a list of numbers, one after the other, and where each ends.
-pub fn build_all(block: &[u8], numbers: &[u64], steps: &mut [u8], ends: &mut [usize]) -> Built
-    ensures { λ r. ⌜ LinedAs (lines (forArch (now (block .entry)) (edgesAnswer (now (block .entry)) (now (numbers .entry)))) (now (numbers .entry)) (now (steps .entry)) (now (ends .entry))) r (now (steps .exit)) (now (ends .exit)) ⌝ }
+pub fn build_all(block: &[u8], numbers: &[u64], steps: &mut [u8], ends: &mut [usize]) -> Building
+    ensures { λ r. ⌜ LinesFor (square (familyOf (now (block .entry)))) (lines (edgesAnswer (now (block .entry)) (now (numbers .entry))) (now (numbers .entry)) (now (steps .entry)) (now (ends .entry))) r (now (steps .entry)) (now (ends .entry)) (now (steps .exit)) (now (ends .exit)) ⌝ }
 {
-    if !lines::has_room(numbers.len(), steps.len(), ends.len()) {
-        return Built::Refused(7);
-    }
-    match known::known_job(block) {
+    match known_of(
+        block,
+        lines::has_room(numbers.len(), steps.len(), ends.len()),
+    ) {
+        Known::NotMine => Building::NotMine,
+        Known::NoRoom => Building::Mine(Wrote::NoRoom),
+        Known::Refused(r) => Building::Mine(Wrote::Answer(Built::Refused(r))),
         Known::Dyck(n) => {
             let table = dyck::dyck_counts(n);
-            output::write_edges(steps, ends, &table, false, 0, n, numbers)
+            Building::Mine(Wrote::Answer(write_edges(steps, ends, &table, false, 0, n, numbers)))
         }
         Known::Schroder(n) => {
             let table = counts::schroder_counts();
-            output::write_edges(steps, ends, &table, true, 0, n, numbers)
+            Building::Mine(Wrote::Answer(write_edges(steps, ends, &table, true, 0, n, numbers)))
         }
         Known::Motzkin(n) => {
             let table = counts::motzkin_counts();
-            output::write_edges(steps, ends, &table, true, 1, n, numbers)
+            Building::Mine(Wrote::Answer(write_edges(steps, ends, &table, true, 1, n, numbers)))
         }
-        Known::Refused(r) => Built::Refused(r),
     }
 }

@@ -1,8 +1,9 @@
 // The edges of a list of numbers, written one after the other.
 ghost use lib.ListN.{length};
-ghost use Rattle.lines.specs.Lines.{lined, LinedAs, Room};
+ghost use Rattle.lines.specs.Lines.{Room};
+ghost use Rattle.lines.specs.Known.{BuildsOf};
 ghost use Rattle.arch.specs.Table.{Table};
-ghost use Rattle.arch.specs.Calls.{edgesFor};
+ghost use Rattle.arch.specs.Answers.{archJob};
 use crate::builder;
 use job::Built;
 
@@ -17,7 +18,7 @@ pub(crate) fn write_edges(
     numbers: &[u64],
 ) -> Built
     requires { ⌜ Table d v n (now table) × Room (length (now numbers)) (length (now steps)) (length (now ends)) ⌝ }
-    ensures { λ r. ⌜ LinedAs (lined (edgesFor d v n (now (numbers .entry))) (now (steps .entry)) (now (ends .entry))) r (now (steps .exit)) (now (ends .exit)) ⌝ }
+    ensures { λ r. ⌜ BuildsOf (archJob d v n) (now (numbers .entry)) (now (steps .entry)) (now (ends .entry)) (now (steps .exit)) (now (ends .exit)) r ⌝ }
 {
     if !lines::all_below(numbers, table[n]) {
         return Built::Refused(6);

@@ -7,11 +7,9 @@ ghost use lib.ListN.{length, getD};
 ghost use Rattle.arch.specs.Table.{Table};
 ghost use Rattle.arch.specs.Answers.{Numbered};
 ghost use Rattle.arch.specs.ReadingBack.{Got};
-use crate::edge::Answer;
-use crate::edge::EAST;
-use crate::edge::NO_EDGE;
-use crate::edge::NORTH;
 use crate::sums::lower;
+use job::Step;
+use lines::Rank;
 
 // What is read: where it starts, and its size and number.
 struct Part {
@@ -43,7 +41,7 @@ fn read(s: &[u8], table: &[u64], n: usize, room: usize) -> Part
         };
     }
     let l = e - 1;
-    if s[l] != NORTH {
+    if s[l] != Step::NORTH {
         return Part {
             good: true,
             at: e,
@@ -71,7 +69,7 @@ fn closing(s: &[u8], table: &[u64], n: usize, room: usize) -> Part
         return NO_PATH;
     }
     let f = p.at - 1;
-    if s[f] != EAST {
+    if s[f] != Step::EAST {
         return NO_PATH;
     }
     let w = read(&s[0..f], table, n, room - 1 - p.size);
@@ -91,22 +89,19 @@ fn closing(s: &[u8], table: &[u64], n: usize, room: usize) -> Part
 }
 
 // The number of the Dyck path s of n, or that it is none.
-pub(crate) fn number(s: &[u8], table: &[u64], n: usize) -> Answer
+pub(crate) fn number(s: &[u8], table: &[u64], n: usize) -> Rank
     requires { ⌜ Table false 0 n (now table) ⌝ }
-    ensures { λ r. ⌜ Numbered (r .good) false 0 n (r .number) (now (s .entry)) ⌝ }
+    ensures { λ r. ⌜ Numbered false 0 n (now (s .entry)) r ⌝ }
 {
     let p = read(s, table, n, n);
     if !p.good {
-        return NO_EDGE;
+        return Rank::NoEdge;
     }
     if p.at != 0 {
-        return NO_EDGE;
+        return Rank::NoEdge;
     }
     if p.size != n {
-        return NO_EDGE;
+        return Rank::NoEdge;
     }
-    Answer {
-        good: true,
-        number: p.number,
-    }
+    Rank::At(p.number)
 }

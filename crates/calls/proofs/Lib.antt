@@ -1,3 +1,4 @@
 pub mod Routes
+pub mod Fitting
 pub mod Bits
 pub mod Ones

@@ -13,7 +13,7 @@ fn print(input: &[u8]) {
 }
 
 // A block of families 1 to 5; m is handed over as the byte that stands for it.
-fn corner(family: u8, n: u8, m: u8) -> [u8; 20] {
+fn lettered(family: u8, n: u8, m: u8) -> [u8; 20] {
     let mut block = [0u8; 20];
     block[0] = family;
     block[1] = n;
@@ -23,7 +23,7 @@ fn corner(family: u8, n: u8, m: u8) -> [u8; 20] {
 
 // A block of families 6 and 7 with the steps (1,-1), (1,0) and (1,b).
 fn directed(family: u8, n: u8, m: u8, b: u8) -> [u8; 20] {
-    let mut block = corner(family, n, m);
+    let mut block = lettered(family, n, m);
     block[3] = 3;
     block[4] = 1;
     block[5] = 255;
@@ -45,17 +45,17 @@ fn other_lengths() {
 }
 
 fn refusals() {
-    print(&corner(8, 3, 3));
+    print(&lettered(8, 3, 3));
     print(&directed(5, 3, 3, 1));
-    print(&corner(1, 65, 0));
-    print(&corner(2, 3, 4));
+    print(&lettered(1, 65, 0));
+    print(&lettered(2, 3, 4));
     print(&directed(6, 3, 1, 255));
-    print(&corner(1, 34, 34));
+    print(&lettered(1, 34, 34));
 }
 
 fn few() {
-    print(&corner(5, 3, 3));
-    print(&corner(1, 0, 0));
+    print(&lettered(5, 3, 3));
+    print(&lettered(1, 0, 0));
     print(&directed(7, 2, 255, 1));
     print(&directed(6, 3, 254, 1));
     print(&directed(7, 3, 1, 1));
@@ -63,10 +63,10 @@ fn few() {
 
 // The count of the last is 1,001.
 fn many() {
-    print(&corner(2, 4, 4));
-    print(&corner(3, 2, 2));
-    print(&corner(4, 3, 3));
-    print(&corner(1, 10, 4));
+    print(&lettered(2, 4, 4));
+    print(&lettered(3, 2, 2));
+    print(&lettered(4, 3, 3));
+    print(&lettered(1, 10, 4));
 }
 
 fn main() {

@@ -30,7 +30,7 @@ pub(crate) fn block(family: u8, n: u8, m: u8, k: u8, p: [u8; 16]) -> [u8; 20] {
 }
 
 // A block of families 1 to 5.
-pub(crate) fn corner(family: u8, n: u8, m: u8) -> [u8; 20] {
+pub(crate) fn lettered(family: u8, n: u8, m: u8) -> [u8; 20] {
     block(family, n, m, 0, NONE)
 }
 

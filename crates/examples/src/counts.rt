@@ -1,6 +1,6 @@
 // Counts and widths: document 01's examples, and jobs of no edge, of one, and of a power of two.
 use crate::blocks::block;
-use crate::blocks::corner;
+use crate::blocks::lettered;
 use crate::blocks::with_t;
 use crate::say;
 
@@ -23,7 +23,7 @@ fn both(block: &[u8]) {
 
 // A job of families 1 to 5.
 fn plain(family: u8, n: u8, m: u8) {
-    both(&corner(family, n, m));
+    both(&lettered(family, n, m));
 }
 
 // A job of families 6 and 7 with T.
@@ -36,7 +36,7 @@ fn stepped(family: u8, n: u8, m: u8, k: u8, p: [u8; 16]) {
     both(&block(family, n, m, k, p));
 }
 
-fn lettered() {
+fn letters() {
     plain(1, 33, 34);
     plain(1, 34, 34);
     plain(1, 65, 0);
@@ -67,7 +67,7 @@ fn directed() {
 
 pub(crate) fn run() {
     say::text(b"counts and widths\n");
-    lettered();
+    letters();
     squares();
     directed();
 }

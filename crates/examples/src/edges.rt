@@ -1,5 +1,5 @@
 // Single numbers and edges: document 01's examples, strings that aren't edges, numbers beyond, and room.
-use crate::blocks::corner;
+use crate::blocks::lettered;
 use crate::blocks::with_t;
 use crate::say;
 
@@ -35,15 +35,15 @@ fn fenced(block: &[u8]) {
 }
 
 fn numbers() {
-    north_east(&corner(1, 3, 3));
-    dyck(&corner(2, 2, 2));
+    north_east(&lettered(1, 3, 3));
+    dyck(&lettered(2, 2, 2));
     open(&with_t(6, 3, 1));
     fenced(&with_t(7, 3, 1));
 }
 
 fn beyond() {
-    let dyck = corner(2, 36, 36);
-    let one = corner(1, 0, 0);
+    let dyck = lettered(2, 36, 36);
+    let one = lettered(1, 0, 0);
     let none = with_t(7, 2, 255);
     say::text(b"the last number, the first beyond, the most\n");
     say::build(&dyck, 11959798385860453491);
@@ -55,8 +55,8 @@ fn beyond() {
 }
 
 fn room() {
-    let delannoy = corner(3, 1, 1);
-    let one = corner(1, 0, 0);
+    let delannoy = lettered(3, 1, 1);
+    let one = lettered(1, 0, 0);
     let mut none = *b"";
     let mut short = *b".";
     let mut just = *b".";

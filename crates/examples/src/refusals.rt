@@ -2,7 +2,7 @@
 use crate::blocks::NONE;
 use crate::blocks::T;
 use crate::blocks::block;
-use crate::blocks::corner;
+use crate::blocks::lettered;
 use crate::blocks::with_t;
 use crate::say;
 
@@ -16,7 +16,7 @@ const FULL: [u8; 16] = [1, 253, 1, 254, 1, 255, 1, 0, 1, 1, 1, 2, 1, 3, 2, 0];
 
 // The count of a block of families 1 to 5, of one with T, of one with k pairs, and of one with the pairs (1,0) and (a,b).
 fn plain(family: u8, n: u8, m: u8) {
-    say::count(&corner(family, n, m));
+    say::count(&lettered(family, n, m));
 }
 
 fn tee(family: u8, n: u8, m: u8) {

@@ -1,5 +1,5 @@
 // All edges of a job, both ways: tables 1 to 5 of document 000 and table 1 of 001.
-use crate::blocks::corner;
+use crate::blocks::lettered;
 use crate::blocks::with_t;
 use crate::say;
 
@@ -14,7 +14,7 @@ fn table(block: &[u8], rows: u64) {
 // All edges of a job of families 1 to 5.
 fn plain(title: &[u8], family: u8, n: u8, m: u8, rows: u64) {
     say::text(title);
-    table(&corner(family, n, m), rows);
+    table(&lettered(family, n, m), rows);
 }
 
 pub(crate) fn run() {

@@ -1,3 +1,3 @@
-pub mod Families
+pub mod Paired
 pub mod Sums
 pub mod Turns

@@ -1,10 +1,10 @@
 -- What `step` has at each of its places. Assumes nothing.
 --
---   wide-enough             the cells' places fit
+--   step-fits               the column is one of 33, and the sums on the way to the place of its first cell that matters fit
 --   First                   only the first n steps are there; first2, first4, first8: for which n
 --   step-low, step-high     where the heights of the column that matter begin, and end
 --   step-empty              a column with no height that matters
---   run                     a column's run can be summed over the first n steps
+--   run                     a column's run can be summed over the first n steps; run-inside: it is part of a table of that length
 --   early, early-2, early-4, early-8    after an early column
 --   seen                    after a later one, whose cells are looked at
 use mathlib.Core.Path.{_≡_}
@@ -12,7 +12,7 @@ use mathlib.Core.Bool.{Bool, true}
 use mathlib.Core.List.{List}
 use Prim.Native.Nat.{ℕ, _+_, _-_, _*_, _^_, _≤_, _<_}
 use native.Mathlib.Omega.{arith}
-use lib.ListN.{getD}
+use lib.ListN.{length, getD}
 use Rattle.tables.specs.declared.Plan.{Plan}
 use Rattle.tables.specs.Cells.{place, Run, Column}
 use Rattle.tables.specs.Table.{From, To}
@@ -27,6 +27,19 @@ pub record First (p : Plan) (sa : List ℕ) (n : ℕ) : Type 0 where
   pub most : n ≤ 8
   pub gone : (i : ℕ) → n ≤ i → i < 8 → p .ex < getD sa i 0
 
+pub record StepFits (m ey x from to : ℕ) : Type 0 where
+  pub column : x < 33
+  pub byte : x * 8 < 2 ^ 64
+  pub next : x + 1 < 2 ^ 64
+  pub tall : m + ey < 2 ^ 64
+  pub stride : m + ey + 1 < 2 ^ 64
+  pub base : (x + 1) * (m + ey + 1) < 2 ^ 64
+  pub height : from < to → m + from < 2 ^ 64
+  pub cell : from < to → (x + 1) * (m + ey + 1) + (m + from) < 2 ^ 64
+
+fits-from : (m ey x from to : ℕ) → m ≤ 1000 → ey ≤ 1000 → x ≤ 32 → to ≤ ey + 1 → (x + 1) * (m + ey + 1) ≤ 98 * 2001 → StepFits m ey x from to
+fits-from m ey x from to lm le lx lt h = record { column = omega arith; byte = omega arith; next = omega arith; tall = omega arith; stride = omega arith; base = omega arith; height = λ l. omega arith; cell = λ l. omega arith }
+
 -- how long n steps need no test
 pub early-2 : 2 ^ 60 ≤ 2305843009213693951
 early-2 = omega arith
@@ -38,7 +51,7 @@ pub early-8 : 8 ^ 20 ≤ 2305843009213693951
 early-8 = omega arith
 
 module _ {p : Plan} {sa sc off : List ℕ} {val : List ℕ} {x : ℕ} (b : Before p sa sc off val x) where
-  pub wide-enough : (x + 1) * strideFor p ≤ 98 * 2001
+  wide-enough : (x + 1) * strideFor p ≤ 98 * 2001
   wide-enough = mul-bound (x + 1) (strideFor p) 98 2001 (omega (arith, b .end, b .ready .sizes .ex-le)) (omega (arith, b .ready .sizes .m-le, b .ready .sizes .ey-le))
 
   pub first2 : p .k ≤ 2 → First p sa 2
@@ -51,11 +64,16 @@ module _ {p : Plan} {sa sc off : List ℕ} {val : List ℕ} {x : ℕ} (b : Befor
   first8 = record { some = omega arith; most = omega arith; gone = λ i h q. absurd (omega arith) }
 
   module _ {starts stops : List ℕ} (sp : SpansFor p starts stops) where
-    pub step-low : From (p .f) (p .hi) (p .ex) (p .ey) x (getD starts x 0)
+    step-low : From (p .f) (p .hi) (p .ex) (p .ey) x (getD starts x 0)
     step-low = span-low sp (b .start) (b .end)
 
-    pub step-high : To (p .f) (p .hi) (p .ey) x (getD stops x 0)
+    step-high : To (p .f) (p .hi) (p .ey) x (getD stops x 0)
     step-high = span-high sp (b .start) (b .end)
+
+    pub step-fits : StepFits (p .m) (p .ey) x (getD starts x 0) (getD stops x 0)
+    step-fits =
+        fits-from (p .m) (p .ey) x (getD starts x 0) (getD stops x 0) (b .ready .sizes .m-le) (b .ready .sizes .ey-le) (omega (arith, b .end, sp .narrow))
+        (step-high .under) wide-enough
 
     pub step-empty : getD stops x 0 ≤ getD starts x 0 → After p sa sc val x true
     step-empty l = record {
@@ -66,6 +84,9 @@ module _ {p : Plan} {sa sc off : List ℕ} {val : List ℕ} {x : ℕ} (b : Befor
     module _ (lt : getD starts x 0 < getD stops x 0) {n : ℕ} (fi : First p sa n) where
       pub run : Run n val sa off x (place (p .m) (p .ey) x (getD starts x 0)) (getD stops x 0 - getD starts x 0)
       run = run-of (b .ready .slopes) (b .ready .offs) val (b .table) (b .start) (b .end) n (fi .some) (fi .most) (fi .gone) (getD starts x 0) (getD stops x 0) step-low step-high lt (b .ready .room) (b .small)
+
+      pub run-inside : {l : ℕ} → l ≡ length val → place (p .m) (p .ey) x (getD starts x 0) + (getD stops x 0 - getD starts x 0) ≤ l
+      run-inside e = omega (arith, run .inside)
 
       module _ {val′ : List ℕ} (co : Column n val val′ sa off x (place (p .m) (p .ey) x (getD starts x 0)) (getD stops x 0 - getD starts x 0)) where
         summed : TableFor p sa sc val′ (x + 1)

@@ -4,18 +4,17 @@ ghost use mathlib.Core.Bool.{false};
 ghost use Prim.Native.Nat.{_≤_, _<_};
 ghost use lib.ListN.{length, drop};
 ghost use Rattle.howmany.specs.Sum.{sum};
-ghost use Rattle.job.specs.Replies.{reply, numberSays};
 ghost use Rattle.tables.specs.Form.{via};
 ghost use Rattle.letters.specs.Letters.{glyphOf};
 ghost use Rattle.tables.specs.Cells.{sourceOf};
 ghost use Rattle.tables.specs.Edges.{Reads, Sought};
-ghost use Rattle.tables.specs.Plans.{walksFor, numberFor, edgeFor};
+ghost use Rattle.tables.specs.Plans.{walksFor, RankFor, edgeFor};
 ghost use Rattle.tables.specs.Filling.{Full};
 use crate::column::source;
 use crate::cone::stays;
-use job::Numbered;
 use job::Step;
 use letters::place_of;
+use lines::Rank;
 use tables::Plan;
 
 // The byte of step i.
@@ -53,7 +52,7 @@ fn part_sum(
     acc
 }
 
-// The number of the edge e (001, algorithm 7), or refusal 5 where e is no edge. Until that is known the sum fits all the same: with the
+// The number of the edge e (001, algorithm 7), or that e is none. Until that is known the sum fits all the same: with the
 // walks to (x, y) it is no more than the count.
 pub(crate) fn read(
     val: &[u64],
@@ -62,9 +61,9 @@ pub(crate) fn read(
     off: &[usize; 8],
     p: Plan,
     e: &[u8],
-) -> Numbered
+) -> Rank
     requires { ⌜ Full p (now sa) (now sc) (now off) (now val) ⌝ }
-    ensures { λ r. ⌜ numberSays r ≡ reply (numberFor false p (now (sa .entry)) (now (sc .entry)) (now (e .entry))) ⌝ }
+    ensures { λ r. ⌜ RankFor false p (now (sa .entry)) (now (sc .entry)) (now (e .entry)) r ⌝ }
 {
     let mut acc: u64 = 0;
     let mut x = p.ex;
@@ -75,18 +74,18 @@ pub(crate) fn read(
         i -= 1;
         let l = place_of(false, e[i]);
         if !stays(p.f, x, y) {
-            return Numbered::Refused(5);
+            return Rank::NoEdge;
         }
         if p.k <= l {
-            return Numbered::Refused(5);
+            return Rank::NoEdge;
         }
         let a = sa[l];
         if x < a {
-            return Numbered::Refused(5);
+            return Rank::NoEdge;
         }
         let c = sc[l];
         if y < c {
-            return Numbered::Refused(5);
+            return Rank::NoEdge;
         }
         acc += part_sum(val, sa, sc, off, p.k, p.f, x, y, at, l);
         x -= a;
@@ -94,9 +93,9 @@ pub(crate) fn read(
         at -= off[l];
     }
     if 0 < x + y {
-        return Numbered::Refused(5);
+        return Rank::NoEdge;
     }
-    Numbered::Number(acc)
+    Rank::At(acc)
 }
 
 // A last step, the number of what stands before it, and the cell that it comes from.

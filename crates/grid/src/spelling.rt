@@ -7,14 +7,17 @@ ghost use lib.ListN.{length};
 ghost use Rattle.rules.specs.Questions.{allBelow};
 ghost use Rattle.tables.specs.Spelling.{Front};
 ghost use Rattle.tables.specs.Filling.{Begun, Full};
-ghost use Rattle.tables.specs.Plans.{Narrow, Planned, PreparedFor, walksFor, RoomFor, edgeFor, ListsFor, BuildsFor};
+ghost use Rattle.tables.specs.Calls.{BuildsAs, Countable};
+ghost use Rattle.tables.specs.Plans.{Narrow, PreparedFor, walksFor, RoomFor, edgeFor, ListsFor, BuildsFor};
 use crate::edges::spell;
 use crate::plan::cells_of;
 use crate::plan::offsets;
+use crate::plan::plan_of;
 use crate::table::fill;
 use job::Built;
 use tables::Answer;
 use tables::Plan;
+use tables::Shape;
 
 // The edge of number r, to the front of steps; the answer is its length.
 fn spell_front(
@@ -83,55 +86,33 @@ fn spell_in(
     Built::Length(spell_all(val, sa, sc, off, p, numbers, steps, ends))
 }
 
-fn spell_128(
+// The edges, over a table of the smallest of three sizes that has room.
+fn spell_small(
     sa: &[usize; 8],
     sc: &[usize; 8],
     off: &[usize; 8],
     p: Plan,
+    cells: usize,
     numbers: &[u64],
     steps: &mut [u8],
     ends: &mut [usize],
 ) -> Built
-    requires { ⌜ PreparedFor p (now sa) (now sc) (now off) 128 × Narrow p × RoomFor (now numbers) (now steps) (now ends) ⌝ }
+    requires { ⌜ PreparedFor p (now sa) (now sc) (now off) cells × (cells ≤ 1280) × Narrow p × RoomFor (now numbers) (now steps) (now ends) ⌝ }
     ensures { λ r. ⌜ BuildsFor false p (now (sa .entry)) (now (sc .entry)) (now (numbers .entry)) (now (steps .entry)) (now (ends .entry)) (now (steps .exit)) (now (ends .exit)) r ⌝ }
 {
-    let mut val = [0u64; 128];
-    spell_in(&mut val, sa, sc, off, p, numbers, steps, ends)
-}
-
-fn spell_384(
-    sa: &[usize; 8],
-    sc: &[usize; 8],
-    off: &[usize; 8],
-    p: Plan,
-    numbers: &[u64],
-    steps: &mut [u8],
-    ends: &mut [usize],
-) -> Built
-    requires { ⌜ PreparedFor p (now sa) (now sc) (now off) 384 × Narrow p × RoomFor (now numbers) (now steps) (now ends) ⌝ }
-    ensures { λ r. ⌜ BuildsFor false p (now (sa .entry)) (now (sc .entry)) (now (numbers .entry)) (now (steps .entry)) (now (ends .entry)) (now (steps .exit)) (now (ends .exit)) r ⌝ }
-{
-    let mut val = [0u64; 384];
-    spell_in(&mut val, sa, sc, off, p, numbers, steps, ends)
-}
-
-fn spell_1280(
-    sa: &[usize; 8],
-    sc: &[usize; 8],
-    off: &[usize; 8],
-    p: Plan,
-    numbers: &[u64],
-    steps: &mut [u8],
-    ends: &mut [usize],
-) -> Built
-    requires { ⌜ PreparedFor p (now sa) (now sc) (now off) 1280 × Narrow p × RoomFor (now numbers) (now steps) (now ends) ⌝ }
-    ensures { λ r. ⌜ BuildsFor false p (now (sa .entry)) (now (sc .entry)) (now (numbers .entry)) (now (steps .entry)) (now (ends .entry)) (now (steps .exit)) (now (ends .exit)) r ⌝ }
-{
+    if cells <= 128 {
+        let mut val = [0u64; 128];
+        return spell_in(&mut val, sa, sc, off, p, numbers, steps, ends);
+    }
+    if cells <= 384 {
+        let mut val = [0u64; 384];
+        return spell_in(&mut val, sa, sc, off, p, numbers, steps, ends);
+    }
     let mut val = [0u64; 1280];
     spell_in(&mut val, sa, sc, off, p, numbers, steps, ends)
 }
 
-fn spell_2496(
+fn spell_medium(
     sa: &[usize; 8],
     sc: &[usize; 8],
     off: &[usize; 8],
@@ -147,7 +128,7 @@ fn spell_2496(
     spell_in(&mut val, sa, sc, off, p, numbers, steps, ends)
 }
 
-fn spell_3712(
+fn spell_large(
     sa: &[usize; 8],
     sc: &[usize; 8],
     off: &[usize; 8],
@@ -163,31 +144,28 @@ fn spell_3712(
     spell_in(&mut val, sa, sc, off, p, numbers, steps, ends)
 }
 
-// The edges, over a table of the smallest of five sizes that has room.
-pub(crate) fn spell_edges(
-    sa: &[usize; 8],
-    sc: &[usize; 8],
-    p: Plan,
-    numbers: &[u64],
-    steps: &mut [u8],
-    ends: &mut [usize],
-) -> Built
-    requires { ⌜ Planned (now sa) (now sc) p × Narrow p × RoomFor (now numbers) (now steps) (now ends) ⌝ }
-    ensures { λ r. ⌜ BuildsFor false p (now (sa .entry)) (now (sc .entry)) (now (numbers .entry)) (now (steps .entry)) (now (ends .entry)) (now (steps .exit)) (now (ends .exit)) r ⌝ }
+// The edges of the numbers of a job of the shape s, or refusal 4 or 6.
+pub(crate) fn spell_edges(s: Shape, numbers: &[u64], steps: &mut [u8], ends: &mut [usize]) -> Built
+    requires { ⌜ Countable s × RoomFor (now numbers) (now steps) (now ends) ⌝ }
+    ensures { λ r. ⌜ BuildsAs s (now (numbers .entry)) (now (steps .entry)) (now (ends .entry)) (now (steps .exit)) (now (ends .exit)) r ⌝ }
 {
-    let off = offsets(sa, sc, p);
+    let state = s.state;
+    if state == 1 {
+        if numbers.len() != 0 {
+            return Built::Refused(6);
+        }
+        return Built::Length(0);
+    }
+    let p = plan_of(s);
+    let sa = s.sa;
+    let sc = s.sc;
+    let off = offsets(&sa, &sc, p);
     let cells = cells_of(p);
-    if cells <= 128 {
-        return spell_128(sa, sc, &off, p, numbers, steps, ends);
-    }
-    if cells <= 384 {
-        return spell_384(sa, sc, &off, p, numbers, steps, ends);
-    }
     if cells <= 1280 {
-        return spell_1280(sa, sc, &off, p, numbers, steps, ends);
+        return spell_small(&sa, &sc, &off, p, cells, numbers, steps, ends);
     }
     if cells <= 2496 {
-        return spell_2496(sa, sc, &off, p, numbers, steps, ends);
+        return spell_medium(&sa, &sc, &off, p, numbers, steps, ends);
     }
-    spell_3712(sa, sc, &off, p, numbers, steps, ends)
+    spell_large(&sa, &sc, &off, p, numbers, steps, ends)
 }

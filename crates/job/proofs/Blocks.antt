@@ -8,7 +8,7 @@
 --   in-found, in-other-a, in-other-b, in-end    one pair more of `isIn`
 --   twins-next, twins-end                  one pair more of `twins`
 --   rest, zeros-past                       the end of a block; no-family: an empty one
---   formed-is, corner-is, directed-is, sized-is    the tests of form and size on raised numbers
+--   formed-is, lettered-is, directed-is, sized-is    the tests of form and size on raised numbers
 use Prim.Native.Nat.{ℕ, zero, suc, _+_, _-_, _*_, _%_, _≤_, _<_}
 use mathlib.Core.Path.{_≡_, refl, ap, ap₂, sym, _∙_, subst}
 use mathlib.Core.List.{List, [], _∷_}
@@ -23,7 +23,7 @@ use lib.Seq.{drop-cons, drop-length, getD-take, getD-drop, take-all}
 use borrow.Author.Tests.{eq-eqb, ne-eqb, lt-ltb, le-ltb, le-leb, lt-leb}
 use Rattle.rules.specs.Points.{leℤ, eqℤ}
 use Rattle.rules.specs.Jobs.{Pair}
-use Rattle.rules.specs.Blocks.{signed, familyOf, nOf, mOf, kOf, zeros, pairsIn, used, unused, formed, between, square, small, sizedCorner, sizedDirected, sized, isIn, twins}
+use Rattle.rules.specs.Blocks.{paired, signed, familyOf, nOf, mOf, kOf, zeros, pairsIn, used, unused, formed, between, square, small, sizedLettered, sizedDirected, sized, isIn, twins}
 use Rattle.rules.specs.Shear.{Is}
 use Rattle.rules.proofs.Letters.{eqℤ-eq, eqℤ-refl}
 use Rattle.rules.proofs.Signed.{is-up, is-fence}
@@ -228,14 +228,14 @@ pub zeros-past : (b : List ℕ) (n : ℕ) → length b ≤ n → zeros (drop n b
 unfolding zeros
 zeros-past b n h = ap zeros (drop-of-length-le b h)
 
-pub formed-is : (b : List ℕ) → formed b ≡ (eqb (length b) 20 && (leb 1 (familyOf b) && (leb (familyOf b) 7 && zeros (pick (leb (familyOf b) 5) (drop 3 b) (drop (4 + 2 * kOf b) b)))))
+pub formed-is : (b : List ℕ) → formed b ≡ (eqb (length b) 20 && (leb 1 (familyOf b) && (leb (familyOf b) 7 && zeros (pick (paired (familyOf b)) (drop (4 + 2 * kOf b) b) (drop 3 b)))))
 unfolding formed unused
 formed-is b = refl
 
-pub corner-is : (b : List ℕ) (m : ℕ) → m ≡ raised (getD b 2 0) → getD b 2 0 < 256
-    → sizedCorner b ≡ (leb (nOf b) 64 && ((leb 128 m && leb m 192) && (not (square (familyOf b)) || eqb m (128 + nOf b))))
-unfolding sizedCorner
-corner-is b m e l =
+pub lettered-is : (b : List ℕ) (m : ℕ) → m ≡ raised (getD b 2 0) → getD b 2 0 < 256
+    → sizedLettered b ≡ (leb (nOf b) 64 && ((leb 128 m && leb m 192) && (not (square (familyOf b)) || eqb m (128 + nOf b))))
+unfolding sizedLettered
+lettered-is b m e l =
     let h : Is (mOf b) m 128 = rw e (signed-is (getD b 2 0) l) in
     ap₂ (λ (s t : Bool). leb (nOf b) 64 && (s && (not (square (familyOf b)) || t))) (between-zero (mOf b) m 64 h) (eq-height (mOf b) m (nOf b) h)
 
@@ -246,7 +246,7 @@ directed-is b m e l =
     let h : Is (mOf b) m 128 = rw e (signed-is (getD b 2 0) l) in
     ap (λ (s : Bool). leb (nOf b) 32 && (s && (leb 1 (kOf b) && (leb (kOf b) 8 && small (used b))))) (between-is (mOf b) m 95 96 (omega arith) h)
 
-pub sized-is : (b : List ℕ) → sized b ≡ pick (leb (familyOf b) 5) (sizedCorner b) (sizedDirected b)
+pub sized-is : (b : List ℕ) → sized b ≡ pick (paired (familyOf b)) (sizedDirected b) (sizedLettered b)
 unfolding sized
 sized-is b = refl
 

@@ -5,34 +5,32 @@
 --   made-kept        where no refusal is told, the job is kept
 --   made-told        where one is told, it is the block's; kept-of, told-of: the same of an answer in hand
 use Prim.Native.Nat.{ℕ, _+_, _*_, _≤_, _<_}
-use mathlib.Core.Path.{_≡_, refl, ap, sym, _∙_}
+use mathlib.Core.Path.{_≡_, refl, ap, sym, subst, _∙_}
 use mathlib.Core.List.{List, _∷_}
 use mathlib.Core.Bool.{Bool, true, false, not, _&&_, _||_}
 use native.Mathlib.Omega.{arith}
 use lib.Dec.{T, eqb, leb, leb→le}
 use lib.IntN.{ℤ, pos, negsuc}
-use lib.ListN.{length, drop, getD}
+use lib.ListN.{drop, getD}
 use lib.Seq.{getD-drop}
-use borrow.Author.Tests.{le-leb, lt-leb, eqb-true, eqb-false}
-use Rattle.howmany.specs.Choose.{pick}
 use Rattle.howmany.proofs.Choices.{and-left, and-right, is-true, holds}
 use Rattle.howmany.proofs.Cases.{eight}
 use Rattle.rules.specs.Jobs as rules
-use Rattle.rules.specs.Jobs.{Pair}
-use Rattle.rules.specs.Jobs.Job.{north-east, dyck, delannoy, schroder, motzkin, directed}
+use Rattle.rules.specs.Jobs.{Pair, pairAt}
 use Rattle.rules.specs.Points.{height}
-use Rattle.rules.specs.Counts.{pairAt}
 use Rattle.rules.specs.Shear.{Is}
 use Rattle.rules.specs.Refusals.{Answer, Refusal, check, refusalNumber}
 use Rattle.rules.specs.Refusals.Refusal.{form, size, twin}
 use Rattle.rules.specs.Refusals.Answer.{accepted, refused}
-use Rattle.rules.specs.Blocks.{familyOf, nOf, mOf, kOf, zeros, formed, sized, sizedCorner, sizedDirected, small, used, square, twins, jobIn, jobAnswer}
+use Rattle.rules.specs.Blocks.{familyOf, paired, nOf, mOf, kOf, formed, sized, small, used, square, twins, jobIn, jobAnswer}
+use Rattle.rules.proofs.Families.{FamilyIs, family-is, sized-lettered, sized-paired}
+use Rattle.rules.proofs.Families.FamilyIs.{is-north-east, is-dyck, is-delannoy, is-schroder, is-motzkin, is-open, is-fenced}
 use Rattle.job.specs.declared.Job.{Job}
 use Rattle.job.specs.declared.Made.{Made}
 use Rattle.job.specs.Made.{raised, pairOf, inRange, Pairs, heldBy, madeOf, makes}
 use Rattle.job.specs.Stands.{Level, Directed, Stands}
 use Rattle.job.specs.Stands.Stands.{as-north-east, as-dyck, as-delannoy, as-schroder, as-motzkin, as-open, as-fenced}
-use Rattle.job.proofs.Blocks.{formed-is, sized-is, corner-is, directed-is, signed-is, used-next, used-length, small-range}
+use Rattle.job.proofs.Blocks.{lettered-is, directed-is, signed-is, used-next, used-length, small-range}
 use Rattle.job.proofs.Makes.{pairs-of}
 
 -- the bytes of a block
@@ -86,17 +84,17 @@ module _ (b : List ℕ) (bytes : Bytes b) (f : formed b ≡ true) (s : sized b �
   m-is : Is (mOf b) (raised (getD b 2 0)) 128
   m-is = signed-is (getD b 2 0) (byte 2)
 
-  record Cornered : Type 0 where
+  record Lettered : Type 0 where
     n-most : nOf b ≤ 64
     m-least : 128 ≤ raised (getD b 2 0)
     m-most : raised (getD b 2 0) ≤ 192
 
-  cornered : familyOf b ≤ 5 → Cornered
-  cornered l =
+  lettered : paired (familyOf b) ≡ false → Lettered
+  lettered l =
       let m = raised (getD b 2 0) in
       let q = not (square (familyOf b)) || eqb m (128 + nOf b) in
       let t : T (leb (nOf b) 64 && ((leb 128 m && leb m 192) && q)) =
-      holds (sym (corner-is b m refl (byte 2)) ∙ sym (sized-is b ∙ ap (λ (x : Bool). pick x (sizedCorner b) (sizedDirected b)) (le-leb (familyOf b) 5 l)) ∙ s) in
+      subst T (lettered-is b m refl (byte 2)) (sized-lettered b (holds s) l) in
       let u = and-left (leb 128 m && leb m 192) q (and-right (leb (nOf b) 64) ((leb 128 m && leb m 192) && q) t) in
       record {
         n-most = leb→le (nOf b) 64 (and-left (leb (nOf b) 64) ((leb 128 m && leb m 192) && q) t);
@@ -112,12 +110,12 @@ module _ (b : List ℕ) (bytes : Bytes b) (f : formed b ≡ true) (s : sized b �
     few : kOf b ≤ 8
     small-ones : small (used b) ≡ true
 
-  wide : 5 < familyOf b → Wide
+  wide : paired (familyOf b) ≡ true → Wide
   wide l =
       let m = raised (getD b 2 0) in
       let r = leb 1 (kOf b) && (leb (kOf b) 8 && small (used b)) in
       let t : T (leb (nOf b) 32 && ((leb 32 m && leb m 224) && r)) =
-      holds (sym (directed-is b m refl (byte 2)) ∙ sym (sized-is b ∙ ap (λ (x : Bool). pick x (sizedCorner b) (sizedDirected b)) (lt-leb (familyOf b) 5 l)) ∙ s) in
+      subst T (directed-is b m refl (byte 2)) (sized-paired b (holds s) l) in
       let u = and-right (leb (nOf b) 32) ((leb 32 m && leb m 224) && r) t in
       let h = and-left (leb 32 m && leb m 224) r u in
       let g = and-right (leb 32 m && leb m 224) r u in
@@ -133,10 +131,10 @@ module _ (b : List ℕ) (bytes : Bytes b) (f : formed b ≡ true) (s : sized b �
 
   -- ---- the job that is held
 
-  level : familyOf b ≤ 5 → Level (heldBy b) (height (mOf b))
+  level : paired (familyOf b) ≡ false → Level (heldBy b) (height (mOf b))
   unfolding heldBy
   level l =
-      let c = cornered l in
+      let c = lettered l in
       let e : height (mOf b) + 128 ≡ raised (getD b 2 0) = height-is (mOf b) (raised (getD b 2 0)) m-is (c .m-least) in
       record { n-most = c .n-most; m-most = omega (arith, c .m-most); m-is = omega arith }
 
@@ -151,7 +149,7 @@ module _ (b : List ℕ) (bytes : Bytes b) (f : formed b ≡ true) (s : sized b �
   pair-at : (i : ℕ) → i < kOf b → Wide → pairAt (used b) i ≡ pairOf b i
   pair-at i l w = first-at (used b) i (pairOf b i) (used-next b (kOf b) (pairs-of b (kOf b) refl f s) i l)
 
-  directed-held : 5 < familyOf b → Directed (heldBy b) (mOf b) (used b)
+  directed-held : paired (familyOf b) ≡ true → Directed (heldBy b) (mOf b) (used b)
   unfolding heldBy
   directed-held l =
       let w = wide l in
@@ -173,37 +171,15 @@ module _ (b : List ℕ) (bytes : Bytes b) (f : formed b ≡ true) (s : sized b �
         b-most = λ i h. omega (arith, held-b i (omega (arith, w .few)), ranged (getD b (4 + 2 * i) 0) (raised (getD b (5 + 2 * i) 0)) (r i h) .b-most);
       }
 
-  family-range : (1 ≤ familyOf b) × (familyOf b ≤ 7)
-  family-range =
-      let z = zeros (pick (leb (familyOf b) 5) (drop 3 b) (drop (4 + 2 * kOf b) b)) in
-      let t : T (eqb (length b) 20 && (leb 1 (familyOf b) && (leb (familyOf b) 7 && z))) = holds (sym (formed-is b) ∙ f) in
-      let u = and-right (eqb (length b) 20) (leb 1 (familyOf b) && (leb (familyOf b) 7 && z)) t in (
-        leb→le 1 (familyOf b) (and-left (leb 1 (familyOf b)) (leb (familyOf b) 7 && z) u),
-        leb→le (familyOf b) 7 (and-left (leb (familyOf b) 7) z (and-right (leb 1 (familyOf b)) (leb (familyOf b) 7 && z) u)),
-      )
-
-  directed-stands : 5 < familyOf b → (x : Bool) → eqb (familyOf b) 7 ≡ x → Stands (heldBy b) (directed x (nOf b) (mOf b) (used b))
+  held-stands : {J : rules.Job} → FamilyIs b J → Stands (heldBy b) J
   unfolding heldBy
-  directed-stands l true e = as-fenced (eqb-true (familyOf b) 7 e) (directed-held l)
-  directed-stands l false e = as-open (omega (arith, family-range, eqb-false (familyOf b) 7 e)) (directed-held l)
-
-  held-stands : Stands (heldBy b) (jobIn b)
-  unfolding heldBy jobIn
-  held-stands = go (eqb (familyOf b) 1) refl (eqb (familyOf b) 2) refl (eqb (familyOf b) 3) refl (eqb (familyOf b) 4) refl (eqb (familyOf b) 5) refl
-    where
-      w : ℕ
-      w = familyOf b
-
-      go : (p : Bool) → eqb (familyOf b) 1 ≡ p → (q : Bool) → eqb (familyOf b) 2 ≡ q → (r : Bool) → eqb (familyOf b) 3 ≡ r → (t : Bool) → eqb (familyOf b) 4 ≡ t → (u : Bool) → eqb (familyOf b) 5 ≡ u
-          → Stands (heldBy b) (pick p (north-east (nOf b) (height (mOf b))) (pick q (dyck (nOf b)) (pick r (delannoy (nOf b) (height (mOf b))) (pick t (schroder (nOf b))
-          (pick u (motzkin (nOf b)) (directed (eqb (familyOf b) 7) (nOf b) (mOf b) (used b)))))))
-      go true p q x r y t z u v = let e = eqb-true w 1 p in as-north-east e (level (omega arith))
-      go false p true x r y t z u v = let e = eqb-true w 2 x in as-dyck e (cornered (omega arith) .n-most)
-      go false p false x true y t z u v = let e = eqb-true w 3 y in as-delannoy e (level (omega arith))
-      go false p false x false y true z u v = let e = eqb-true w 4 z in as-schroder e (cornered (omega arith) .n-most)
-      go false p false x false y false z true v = let e = eqb-true w 5 v in as-motzkin e (cornered (omega arith) .n-most)
-      go false p false x false y false z false v =
-          directed-stands (omega (arith, family-range, eqb-false w 1 p, eqb-false w 2 x, eqb-false w 3 y, eqb-false w 4 z, eqb-false w 5 v)) (eqb (familyOf b) 7) refl
+  held-stands (is-north-east e) = as-north-east e (level (ap paired e))
+  held-stands (is-dyck e) = as-dyck e (lettered (ap paired e) .n-most)
+  held-stands (is-delannoy e) = as-delannoy e (level (ap paired e))
+  held-stands (is-schroder e) = as-schroder e (lettered (ap paired e) .n-most)
+  held-stands (is-motzkin e) = as-motzkin e (lettered (ap paired e) .n-most)
+  held-stands (is-open e) = as-open e (directed-held (ap paired e))
+  held-stands (is-fenced e) = as-fenced e (directed-held (ap paired e))
 
 -- ---- the maker's answer
 
@@ -222,7 +198,7 @@ made-kept b bytes e = go (formed b) refl (sized b) refl (twins (used b)) refl e
     Made-by p q r = check p form (check q size (check (not r) twin (accepted (jobIn b))))
 
     go : (p : Bool) → formed b ≡ p → (q : Bool) → sized b ≡ q → (r : Bool) → twins (used b) ≡ r → makes (Made-by p q r) b .refusal ≡ 0 → Kept b (makes (Made-by p q r) b .job)
-    go true p true q false r e = record { job = jobIn b; answer = answer-is b ∙ rw (p, q, r); family = refl; stands = held-stands b bytes p q }
+    go true p true q false r e = record { job = jobIn b; answer = answer-is b ∙ rw (p, q, r); family = refl; stands = held-stands b bytes p q (family-is b (holds p)) }
     go true p true q true r e = absurd (omega arith)
     go true p false q x r e = absurd (omega arith)
     go false p y q x r e = absurd (omega arith)

@@ -10,9 +10,8 @@ use Prim.Native.Nat.{ℕ, _+_, _≤_, _<_}
 use lib.IntN.{ℤ}
 use lib.ListN.{length, getD}
 use Rattle.rules.specs.Jobs as rules
-use Rattle.rules.specs.Jobs.{Pair}
+use Rattle.rules.specs.Jobs.{Pair, pairAt}
 use Rattle.rules.specs.Jobs.Job.{north-east, dyck, delannoy, schroder, motzkin, directed}
-use Rattle.rules.specs.Counts.{pairAt}
 use Rattle.rules.specs.Shear.{Is}
 use Rattle.job.specs.declared.Job.{Job}
 
@@ -42,5 +41,5 @@ pub data Stands (j : Job) : rules.Job → Type 0 where
   as-delannoy : {m : ℕ} → j .family ≡ 3 → Level j m → Stands j (delannoy (j .n) m)
   as-schroder : j .family ≡ 4 → j .n ≤ 64 → Stands j (schroder (j .n))
   as-motzkin : j .family ≡ 5 → j .n ≤ 64 → Stands j (motzkin (j .n))
-  as-open : {m : ℤ} {pairs : List Pair} → j .family ≡ 6 → Directed j m pairs → Stands j (directed false (j .n) m pairs)
-  as-fenced : {m : ℤ} {pairs : List Pair} → j .family ≡ 7 → Directed j m pairs → Stands j (directed true (j .n) m pairs)
+  as-open : {m : ℤ} {pairs : List Pair} → j .family ≡ 6 → Directed j m pairs → Stands j (directed false (j .n) m 0 pairs)
+  as-fenced : {m : ℤ} {pairs : List Pair} → j .family ≡ 7 → Directed j m pairs → Stands j (directed true (j .n) m 0 pairs)

@@ -2,7 +2,7 @@
 ghost use mathlib.Core.Path.{_≡_};
 ghost use Prim.Native.Nat.{ℕ, _+_, _*_, _%_, _≤_, _<_};
 ghost use lib.ListN.{length, drop, getD};
-ghost use Rattle.rules.specs.Blocks.{familyOf, square, corner, zeros, formed, sized, sizedCorner, sizedDirected, small, used, isIn, twins};
+ghost use Rattle.rules.specs.Blocks.{familyOf, plain, square, paired, zeros, formed, sized, sizedLettered, sizedDirected, small, used, isIn, twins};
 ghost use mathlib.Core.List.{_++_};
 ghost use Rattle.rules.specs.Answers.{written};
 ghost use Rattle.rules.specs.Refusals.Answer.{accepted};
@@ -99,8 +99,28 @@ fn wide(x: u8) -> usize
     x as usize
 }
 
-// Whether the family stays at y ≤ x: 2, 4 or 5.
-pub fn is_square_family(family: u8) -> bool
+// The family that a block says it is of: its first byte, 0 where there is none, which is no family's number.
+pub fn family_of(block: &[u8]) -> u8
+    ensures { λ r. ⌜ r ≡ familyOf (now (block .entry)) ⌝ }
+{
+    if block.len() < 1 {
+        return 0;
+    }
+    block[0]
+}
+
+// Whether the family is 1 or 3.
+pub fn is_plain(family: u8) -> bool
+    ensures { λ r. ⌜ r ≡ plain family ⌝ }
+{
+    if family == 1 {
+        return true;
+    }
+    family == 3
+}
+
+// Whether the family is 2, 4 or 5: its end is (n,n), and it stays at y ≤ x.
+pub fn is_square(family: u8) -> bool
     ensures { λ r. ⌜ r ≡ square family ⌝ }
 {
     if family == 2 {
@@ -112,28 +132,14 @@ pub fn is_square_family(family: u8) -> bool
     family == 5
 }
 
-// Whether the block is of such a family.
-pub fn is_square(block: &[u8]) -> bool
-    ensures { λ r. ⌜ r ≡ square (familyOf (now (block .entry))) ⌝ }
+// Whether the family is 6 or 7: its steps are pairs, written as digits.
+pub fn is_paired(family: u8) -> bool
+    ensures { λ r. ⌜ r ≡ paired family ⌝ }
 {
-    if block.len() == 0 {
-        return false;
-    }
-    is_square_family(block[0])
-}
-
-// Whether the block is of family 1 or 3.
-pub fn is_corner(block: &[u8]) -> bool
-    ensures { λ r. ⌜ r ≡ corner (familyOf (now (block .entry))) ⌝ }
-{
-    if block.len() < 1 {
-        return false;
-    }
-    let family = block[0];
-    if family == 1 {
+    if family == 6 {
         return true;
     }
-    family == 3
+    family == 7
 }
 
 // Whether every byte is zero.
@@ -164,7 +170,7 @@ fn is_formed(block: &[u8]) -> bool
     if Job::FAMILIES < family {
         return false;
     }
-    if family <= Job::CORNERS {
+    if !is_paired(family) {
         return all_zero(&block[3..]);
     }
     let k = wide(block[3]);
@@ -209,9 +215,9 @@ fn in_range(a: u8, b: u8) -> bool
 }
 
 // Families 1 to 5: n and m are 0 to 64, and m = n in 2, 4 and 5.
-fn is_sized_corner(block: &[u8]) -> bool
+fn is_sized_lettered(block: &[u8]) -> bool
     requires { ⌜ Twenty (now block) ⌝ }
-    ensures { λ r. ⌜ r ≡ sizedCorner (now (block .entry)) ⌝ }
+    ensures { λ r. ⌜ r ≡ sizedLettered (now (block .entry)) ⌝ }
 {
     let n = block[1];
     let m = raise(block[2]);
@@ -224,7 +230,7 @@ fn is_sized_corner(block: &[u8]) -> bool
     if Job::LEVEL + Job::FARTHEST < m {
         return false;
     }
-    if is_square(block) {
+    if is_square(block[0]) {
         return m == Job::LEVEL + n;
     }
     true
@@ -260,10 +266,10 @@ fn is_sized(block: &[u8]) -> bool
     requires { ⌜ Twenty (now block) ⌝ }
     ensures { λ r. ⌜ r ≡ sized (now (block .entry)) ⌝ }
 {
-    if block[0] <= Job::CORNERS {
-        return is_sized_corner(block);
+    if is_paired(block[0]) {
+        return is_sized_directed(block);
     }
-    is_sized_directed(block)
+    is_sized_lettered(block)
 }
 
 // Whether a pair from place j on equals pair i.
@@ -301,12 +307,10 @@ fn has_twins(block: &[u8], k: usize) -> bool
 }
 
 impl Job {
-    // The bytes of a block; the last family, and the last that has no pairs.
+    // The bytes of a block, and the last family.
     pub const BLOCK: usize = 20;
 
     pub const FAMILIES: u8 = 7;
-
-    pub const CORNERS: u8 = 5;
     // Ranges of families 1 to 5.
     pub const FARTHEST: u8 = 64;
     // Ranges of families 6 and 7; m and b are raised by 128.

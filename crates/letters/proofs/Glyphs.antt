@@ -2,7 +2,7 @@
 --
 --   place-n, place-e, place-d, place-no, place-low, place-high, place-digit    the branches of `place_of`
 --   glyph-n, glyph-e, glyph-d, glyph-digit    the branches of `glyph_of`
---   place-corner, place-glyph    the byte of a step stands for that step
+--   place-lettered, place-glyph    the byte of a step stands for that step
 use mathlib.Core.Path.{_≡_, refl}
 use mathlib.Core.Bool.{Bool, true, false}
 use Prim.Native.Nat.{ℕ, zero, suc, _+_, _-_, _≤_, _<_}
@@ -11,62 +11,62 @@ use native.Mathlib.Nat.{add-sub-cancel}
 use borrow.Author.Tests.{lt-ltb, le-ltb, eq-eqb, ne-eqb}
 use Rattle.letters.specs.Letters.{placeOf, glyphOf}
 
-module _ (corner : Bool) (b : ℕ) where
-  module _ (e : corner ≡ true) where
-    pub place-n : b ≡ 78 → 0 ≡ placeOf corner b
+module _ (lettered : Bool) (b : ℕ) where
+  module _ (e : lettered ≡ true) where
+    pub place-n : b ≡ 78 → 0 ≡ placeOf lettered b
     unfolding placeOf
     place-n h = rw (e, eq-eqb b 78 h)
 
-    pub place-e : (b ≡ 78 → ⊥) → b ≡ 69 → 1 ≡ placeOf corner b
+    pub place-e : (b ≡ 78 → ⊥) → b ≡ 69 → 1 ≡ placeOf lettered b
     unfolding placeOf
     place-e n h = rw (e, ne-eqb b 78 n, eq-eqb b 69 h)
 
-    pub place-d : (b ≡ 78 → ⊥) → (b ≡ 69 → ⊥) → b ≡ 68 → 2 ≡ placeOf corner b
+    pub place-d : (b ≡ 78 → ⊥) → (b ≡ 69 → ⊥) → b ≡ 68 → 2 ≡ placeOf lettered b
     unfolding placeOf
     place-d n m h = rw (e, ne-eqb b 78 n, ne-eqb b 69 m, eq-eqb b 68 h)
 
-    pub place-no : (b ≡ 78 → ⊥) → (b ≡ 69 → ⊥) → (b ≡ 68 → ⊥) → 8 ≡ placeOf corner b
+    pub place-no : (b ≡ 78 → ⊥) → (b ≡ 69 → ⊥) → (b ≡ 68 → ⊥) → 8 ≡ placeOf lettered b
     unfolding placeOf
     place-no n m h = rw (e, ne-eqb b 78 n, ne-eqb b 69 m, ne-eqb b 68 h)
 
-  module _ (e : corner ≡ false) where
-    pub place-low : b < 49 → 8 ≡ placeOf corner b
+  module _ (e : lettered ≡ false) where
+    pub place-low : b < 49 → 8 ≡ placeOf lettered b
     unfolding placeOf
     place-low h = rw (e, lt-ltb b 49 h)
 
-    pub place-high : 49 ≤ b → 56 < b → 8 ≡ placeOf corner b
+    pub place-high : 49 ≤ b → 56 < b → 8 ≡ placeOf lettered b
     unfolding placeOf
     place-high l h = rw (e, le-ltb b 49 l, lt-ltb 56 b h)
 
-    pub place-digit : 49 ≤ b → b ≤ 56 → b - 49 ≡ placeOf corner b
+    pub place-digit : 49 ≤ b → b ≤ 56 → b - 49 ≡ placeOf lettered b
     unfolding placeOf
     place-digit l h = rw (e, le-ltb b 49 l, le-ltb 56 b h)
 
-module _ (corner : Bool) (i : ℕ) where
-  module _ (e : corner ≡ true) where
-    pub glyph-n : i ≡ 0 → 78 ≡ glyphOf corner i
+module _ (lettered : Bool) (i : ℕ) where
+  module _ (e : lettered ≡ true) where
+    pub glyph-n : i ≡ 0 → 78 ≡ glyphOf lettered i
     unfolding glyphOf
     glyph-n h = rw (e, eq-eqb i 0 h)
 
-    pub glyph-e : (i ≡ 0 → ⊥) → i ≡ 1 → 69 ≡ glyphOf corner i
+    pub glyph-e : (i ≡ 0 → ⊥) → i ≡ 1 → 69 ≡ glyphOf lettered i
     unfolding glyphOf
     glyph-e n h = rw (e, ne-eqb i 0 n, eq-eqb i 1 h)
 
-    pub glyph-d : (i ≡ 0 → ⊥) → (i ≡ 1 → ⊥) → 68 ≡ glyphOf corner i
+    pub glyph-d : (i ≡ 0 → ⊥) → (i ≡ 1 → ⊥) → 68 ≡ glyphOf lettered i
     unfolding glyphOf
     glyph-d n m = rw (e, ne-eqb i 0 n, ne-eqb i 1 m)
 
-  pub glyph-digit : corner ≡ false → i + 49 ≡ glyphOf corner i
+  pub glyph-digit : lettered ≡ false → i + 49 ≡ glyphOf lettered i
   unfolding glyphOf
   glyph-digit e = rw e
 
--- for the three corners, and for the eight digits
-pub place-corner : (i : ℕ) → i < 3 → placeOf true (glyphOf true i) ≡ i
+-- for the three lettereds, and for the eight digits
+pub place-lettered : (i : ℕ) → i < 3 → placeOf true (glyphOf true i) ≡ i
 unfolding placeOf glyphOf
-place-corner zero l = refl
-place-corner (suc zero) l = refl
-place-corner (suc (suc zero)) l = refl
-place-corner (suc (suc (suc i))) l = absurd (omega arith)
+place-lettered zero l = refl
+place-lettered (suc zero) l = refl
+place-lettered (suc (suc zero)) l = refl
+place-lettered (suc (suc (suc i))) l = absurd (omega arith)
 
 pub place-glyph : (i : ℕ) → i < 8 → placeOf false (glyphOf false i) ≡ i
 unfolding placeOf glyphOf

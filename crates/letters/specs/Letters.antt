@@ -1,8 +1,8 @@
--- The letters of an edge as bytes. Families 1 and 3 write corners, N E D; families 6 and 7 write the digits 1 to 8.
+-- The letters of an edge as bytes. Families 1 and 3 write lettereds, N E D; families 6 and 7 write the digits 1 to 8.
 --
---   placeOf corner b    which step the byte b stands for; 8 where it is no letter
---   glyphOf corner i    the byte of step i
---   wordOf corner e     the edge e as steps, its last letter first
+--   placeOf lettered b    which step the byte b stands for; 8 where it is no letter
+--   glyphOf lettered i    the byte of step i
+--   wordOf lettered e     the edge e as steps, its last letter first
 use mathlib.Core.Bool.{Bool, true, false}
 use mathlib.Core.List.{List, map, reverse}
 use Prim.Native.Nat.{ℕ, _+_, _-_}
@@ -20,4 +20,4 @@ glyphOf false i = i + 49
 
 -- "Compare two edges from their last steps backwards"
 abbrev pub wordOf : Bool → List ℕ → List ℕ
-wordOf corner e = reverse (map (placeOf corner) e)
+wordOf lettered e = reverse (map (placeOf lettered) e)

@@ -1,4 +1,4 @@
-// Which step a byte of an edge stands for: corners N E D for families 1 and 3, the digits 1 to 8 for families 6 and 7.
+// Which step a byte of an edge stands for: lettereds N E D for families 1 and 3, the digits 1 to 8 for families 6 and 7.
 ghost use mathlib.Core.Path.{_≡_};
 ghost use Rattle.letters.specs.Letters.{placeOf};
 use job::Step;
@@ -10,10 +10,10 @@ fn wide(x: u8) -> usize
 }
 
 // Which step the byte b stands for; 8 where it is no letter.
-pub fn place_of(corner: bool, b: u8) -> usize
-    ensures { λ r. ⌜ r ≡ placeOf corner b ⌝ }
+pub fn place_of(lettered: bool, b: u8) -> usize
+    ensures { λ r. ⌜ r ≡ placeOf lettered b ⌝ }
 {
-    if corner {
+    if lettered {
         if b == Step::NORTH {
             return 0;
         }

@@ -3,9 +3,10 @@
 --   room-few, room-for      what has_room answers; room-of: what that means
 --   Lining g ns i at ..    the edges of the first i numbers are written, and end at `at`
 --   lining-none, lining-next, lining-all    none of them, one more, all of them; lining-room, lining-part: there is room for one more
---   lined-refused, lines-short, lines-room   a refusal; no room; room; lines-roomy: where there is room
+--   lined-refused, lines-short, lines-room   a refusal; no room; room; lines-roomy, lines-never, lines-built: where there is room
 use mathlib.Core.Path.{_≡_, refl, sym, ap, ap₂, _∙_}
 use mathlib.Core.Bool.{true, false}
+use mathlib.Core.Option.{some, Option·none-ne-some}
 use mathlib.Core.List.{List, [], _∷_, _++_, map, append-nil, append-assoc, map-append}
 use Prim.Native.Nat.{ℕ, suc, _+_, _*_, _-_, _/_, _≤_, _<_}
 use native.Mathlib.Decide.{decLe}
@@ -17,15 +18,18 @@ use lib.Seq.{take-suc, take-length, length-take-le, take-at, drop-at, drop-drop,
 use borrow.Rule.Slice.PartMut.{putMid, same-len-mid}
 use borrow.Author.Tests.{le-leb, lt-leb}
 use Rattle.howmany.proofs.Choices.{and-left, and-right, holds}
-use Rattle.rules.specs.Refusals.{Answer, Refusal, refusalNumber}
-use Rattle.rules.specs.Refusals.Refusal.{room}
+use Rattle.rules.specs.Refusals as refusals
+use Rattle.rules.specs.Refusals.{Refusal, refusalNumber}
 use Rattle.rules.specs.Refusals.Answer.{accepted, refused}
 use Rattle.rules.specs.Packs.{joined}
 use Rattle.job.specs.declared.Built.{Built}
 use Rattle.job.specs.declared.Built.the-variants.{Length, Refused}
+use Rattle.job.specs.Replies.{reply}
 use Rattle.job.specs.Replies.Reply.{value}
 use Rattle.job.proofs.Puts.{put-byte}
-use Rattle.lines.specs.Lines.{endsFrom, roomy, Room, lined, lines, LinedAs}
+use Rattle.lines.specs.declared.Wrote.{Wrote}
+use Rattle.lines.specs.declared.Wrote.the-variants.{NoRoom, Answer}
+use Rattle.lines.specs.Lines.{endsFrom, roomy, Room, lined, LinedAs, lines, builtOf, WroteAs}
 
 -- ---- room
 
@@ -163,22 +167,37 @@ module _ (g : ℕ → List ℕ) (ns steps₀ ends₀ : List ℕ) (i at : ℕ) (s
 
 -- ---- refusals
 
-pub lined-refused : (a : Answer (List (List ℕ))) (x : Refusal) (r : ℕ) (steps ends : List ℕ) → a ≡ refused x → r ≡ refusalNumber x → LinedAs (lined a steps ends) (Refused r) steps ends
+pub lined-refused : (a : refusals.Answer (List (List ℕ))) (x : Refusal) (r : ℕ) (steps ends : List ℕ) → a ≡ refused x → r ≡ refusalNumber x → LinedAs (lined a steps ends) (Refused r) steps ends
 unfolding lined
 lined-refused a x r steps ends e q = rw (e, q) (record { says = refl; bytes = refl; places = refl })
 
-pub lines-short : (a : Answer (List (List ℕ))) (ns steps ends : List ℕ) → roomy (length ns) (length steps) (length ends) ≡ false
-    → LinedAs (lines a ns steps ends) (Refused 7) steps ends
-unfolding lines refusalNumber
+pub lines-short : (a : refusals.Answer (List (List ℕ))) (ns steps ends : List ℕ) → roomy (length ns) (length steps) (length ends) ≡ false
+    → WroteAs (lines a ns steps ends) NoRoom steps ends
+unfolding lines
 lines-short a ns steps ends e = rw e (record { says = refl; bytes = refl; places = refl })
 
-pub lines-room : (a : Answer (List (List ℕ))) (ns steps ends : List ℕ) (r : Built) (s t : List ℕ) → roomy (length ns) (length steps) (length ends) ≡ true
-    → LinedAs (lined a steps ends) r s t → LinedAs (lines a ns steps ends) r s t
+pub lines-room : (a : refusals.Answer (List (List ℕ))) (ns steps ends : List ℕ) (r : Built) (s t : List ℕ) → roomy (length ns) (length steps) (length ends) ≡ true
+    → LinedAs (lined a steps ends) r s t → WroteAs (lines a ns steps ends) (Answer r) s t
 unfolding lines
-lines-room a ns steps ends r s t e w = rw e w
+lines-room a ns steps ends r s t e w = rw e (record { says = ap some (w .says); bytes = w .bytes; places = w .places })
 
-pub lines-roomy : (a : Answer (List (List ℕ))) (ns steps ends : List ℕ) (r : Built) (s t : List ℕ) → Room (length ns) (length steps) (length ends)
-    → LinedAs (lines a ns steps ends) r s t → LinedAs (lined a steps ends) r s t
+-- where there is room, what was written is an answer
+pub lines-roomy : (a : refusals.Answer (List (List ℕ))) (ns steps ends : List ℕ) (r : Built) (s t : List ℕ) → Room (length ns) (length steps) (length ends)
+    → WroteAs (lines a ns steps ends) (Answer r) s t → LinedAs (lined a steps ends) r s t
 unfolding lines
 lines-roomy a ns steps ends r s t h w =
-    rw (le-leb (length ns) (length ends) (h .for-ends), le-leb (128 * length ns) (length steps) (h .for-steps)) at w
+    let v : WroteAs (record { told = some (reply (lined a steps ends .answer)); steps = lined a steps ends .steps; ends = lined a steps ends .ends }) (Answer r) s t =
+    rw (le-leb (length ns) (length ends) (h .for-ends), le-leb (128 * length ns) (length steps) (h .for-steps)) at w in
+    record { says = cc (v .says); bytes = v .bytes; places = v .places }
+
+pub lines-never : (a : refusals.Answer (List (List ℕ))) (ns steps ends s t : List ℕ) → Room (length ns) (length steps) (length ends) → WroteAs (lines a ns steps ends) NoRoom s t → ⊥
+unfolding lines
+lines-never a ns steps ends s t h w =
+    Option·none-ne-some (reply (lined a steps ends .answer))
+    (rw (le-leb (length ns) (length ends) (h .for-ends), le-leb (128 * length ns) (length steps) (h .for-steps)) at (w .says))
+
+-- the same of an answer in hand
+pub lines-built : (a : refusals.Answer (List (List ℕ))) (ns steps ends : List ℕ) (w : Wrote) (r : Built) (s t : List ℕ) → Room (length ns) (length steps) (length ends)
+    → r ≡ builtOf w → WroteAs (lines a ns steps ends) w s t → LinedAs (lined a steps ends) r s t
+lines-built a ns steps ends (Answer x) r s t h e w = lines-roomy a ns steps ends r s t h (rw e w)
+lines-built a ns steps ends NoRoom r s t h e w = absurd (lines-never a ns steps ends s t h w)

@@ -1,1 +1,4 @@
 pub mod Lines
+pub mod Ranks
+pub mod Mine
+pub mod Known

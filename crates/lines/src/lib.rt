@@ -1,8 +1,48 @@
-// The edges of a list of numbers, one after the other in one lent slice, and where each of them ends in another: what a family's crate writes
-// for a whole pack or listing, with its table filled once.
+// Lists of edges and of numbers, as the crate of some families answers them with its counts worked out once: edges stand one after the other
+// in one lent slice, and where each of them ends in another.
 ghost use mathlib.Core.Path.{_≡_};
+ghost use lib.ListN.{length};
 ghost use Rattle.rules.specs.Questions.{allBelow};
-ghost use Rattle.lines.specs.Lines.{roomy};
+ghost use Rattle.job.specs.Parts.{PartOf};
+ghost use Rattle.lines.specs.Lines.{roomy, lesser};
+use job::Built;
+use job::Counted;
+
+// What is answered of the edges of a list of numbers: that there isn't room for as many edges of any length, or the answer.
+pub enum Wrote {
+    NoRoom,
+    Answer(Built),
+}
+
+// What is answered of a list of edges: that there isn't room for as many numbers, how many edges have got theirs, which are all up to the
+// first that isn't valid, or a refusal number.
+pub enum Ranked {
+    NoRoom,
+    Upto(usize),
+    Refused(u8),
+}
+
+// What the crate of some families answers: that a block is of other families, or the answer.
+pub enum Counting {
+    NotMine,
+    Mine(Counted),
+}
+
+pub enum Numbering {
+    NotMine,
+    Mine(Ranked),
+}
+
+pub enum Building {
+    NotMine,
+    Mine(Wrote),
+}
+
+// The number of one edge, or that the bytes are none.
+pub enum Rank {
+    At(u64),
+    NoEdge,
+}
 
 // No edge has more steps.
 pub struct Line {
@@ -35,4 +75,22 @@ pub fn all_below(numbers: &[u64], count: u64) -> bool
         i += 1;
     }
     true
+}
+
+fn lesser_of(a: usize, b: usize) -> usize
+    ensures { λ r. ⌜ r ≡ lesser a b ⌝ }
+{
+    if a < b { a } else { b }
+}
+
+// The bytes of s from `from` up to, not including, `to`, as part of s: none where `to` isn't above `from`, and no more than s has.
+pub fn part(s: &[u8], from: usize, to: usize) -> &[u8]
+    ensures { λ r. ⌜ PartOf (s .entry) (lesser from (length (now (s .entry)))) to r ⌝ }
+{
+    let a = lesser_of(from, s.len());
+    let e = lesser_of(to, s.len());
+    if e < a {
+        return &s[a..a];
+    }
+    &s[a..e]
 }

@@ -18,7 +18,7 @@ use Rattle.rules.specs.Points.{Point, Step, origin, height, moved}
 use Rattle.rules.specs.Jobs as rules
 use Rattle.rules.specs.Jobs.{Pair, one, numbered, stepsOf, endOf, stays}
 use Rattle.rules.specs.Jobs.Job.{directed}
-use Rattle.rules.specs.Valid.{place, at, walks, Valid}
+use Rattle.rules.specs.Valid.{place, at, walks, isEdge, Valid}
 use Rattle.rules.specs.Counts.{countOf}
 use Rattle.rules.specs.Numbers.{edgeOf}
 use Rattle.rules.specs.Refusals.{Answer, refusalNumber}
@@ -81,25 +81,25 @@ lifted (pos k) r u = (tt, refl)
 lifted (negsuc k) r u = absurd u
 
 module _ (J : rules.Job) (rises : Rises (stepsOf J)) where
-  corner-gain : (p : Point) (i : ℕ) → i < length (stepsOf J) → Upper (p .y)
+  lettered-gain : (p : Point) (i : ℕ) → i < length (stepsOf J) → Upper (p .y)
       → Upper (moved p (at (stepsOf J) i) .y) × (p .x + height (p .y) < moved p (at (stepsOf J) i) .x + height (moved p (at (stepsOf J) i) .y))
-  corner-gain p i l u =
+  lettered-gain p i l u =
       let r = rise-at (stepsOf J) rises i l in
       let a = at (stepsOf J) i .a in
       let w = lifted (p .y) (r .up) u in
       subst (λ (z : ℤ). Upper (p .y +ℤ z) × (p .x + height (p .y) < p .x + a + height (p .y +ℤ z))) (sym (r .is))
       (w .0, omega (arith, w .1, r .some))
 
-  corner-long : (e : List ℕ) → T (walks J origin e) → length e ≤ endOf J .x + height (endOf J .y)
-  corner-long e t = omega (arith, walk-long J (λ p. p .x + height (p .y)) (λ p. Upper (p .y)) corner-gain origin e tt t)
+  lettered-long : (e : List ℕ) → T (walks J origin e) → length e ≤ endOf J .x + height (endOf J .y)
+  lettered-long e t = omega (arith, walk-long J (λ p. p .x + height (p .y)) (λ p. Upper (p .y)) lettered-gain origin e tt t)
 
 north : (l a u : ℕ) → 1 ≤ a + u → Rise (rules.step l a (pos u))
 north l a u h = record { up = u; is = refl; some = h }
 
 -- ---- families 6 and 7: each step goes right
 
-directed-long : (f : Bool) (j : Job) (n : ℕ) (m : ℤ) (pairs : List Pair) → Directed j m pairs → (e : List ℕ) → T (walks (directed f n m pairs) origin e) → length e ≤ n
-directed-long f j n m pairs d e t = omega (arith, walk-long (directed f n m pairs) (λ p. p .x) (λ p. Unit {0}) gain origin e tt t)
+directed-long : (f : Bool) (j : Job) (n : ℕ) (m : ℤ) (pairs : List Pair) → Directed j m pairs → (e : List ℕ) → T (walks (directed f n m 0 pairs) origin e) → length e ≤ n
+directed-long f j n m pairs d e t = omega (arith, walk-long (directed f n m 0 pairs) (λ p. p .x) (λ p. Unit {0}) gain origin e tt t)
   where
     gain : (p : Point) (i : ℕ) → i < length (numbered one pairs) → Unit {0} → Unit {0} × (p .x < p .x + at (numbered one pairs) i .a)
     gain p i l u =
@@ -108,16 +108,16 @@ directed-long f j n m pairs d e t = omega (arith, walk-long (directed f n m pair
 
 -- ---- all families
 
-edge-most : (j : Job) (J : rules.Job) → Stands j J → (e : List ℕ) → T (walks J origin e) → length e ≤ 128
+edge-most : (j : Job) (J : rules.Job) → Stands j J → (e : List ℕ) → T (isEdge J e) → length e ≤ 128
 edge-most j J (as-north-east {m} f l) e t =
-    omega (arith, corner-long J (north 78 0 1 (omega arith), (north 69 1 0 (omega arith), tt)) e t, l .n-most, l .m-most)
-edge-most j J (as-dyck f l) e t = omega (arith, corner-long J (north 78 0 1 (omega arith), (north 69 1 0 (omega arith), tt)) e t)
+    omega (arith, lettered-long J (north 78 0 1 (omega arith), (north 69 1 0 (omega arith), tt)) e t, l .n-most, l .m-most)
+edge-most j J (as-dyck f l) e t = omega (arith, lettered-long J (north 78 0 1 (omega arith), (north 69 1 0 (omega arith), tt)) e t)
 edge-most j J (as-delannoy {m} f l) e t =
-    omega (arith, corner-long J (north 78 0 1 (omega arith), (north 69 1 0 (omega arith), (north 68 1 1 (omega arith), tt))) e t, l .n-most, l .m-most)
+    omega (arith, lettered-long J (north 78 0 1 (omega arith), (north 69 1 0 (omega arith), (north 68 1 1 (omega arith), tt))) e t, l .n-most, l .m-most)
 edge-most j J (as-schroder f l) e t =
-    omega (arith, corner-long J (north 78 0 1 (omega arith), (north 69 1 0 (omega arith), (north 68 1 1 (omega arith), tt))) e t)
+    omega (arith, lettered-long J (north 78 0 1 (omega arith), (north 69 1 0 (omega arith), (north 68 1 1 (omega arith), tt))) e t)
 edge-most j J (as-motzkin f l) e t =
-    omega (arith, corner-long J (north 78 0 2 (omega arith), (north 69 2 0 (omega arith), (north 68 1 1 (omega arith), tt))) e t)
+    omega (arith, lettered-long J (north 78 0 2 (omega arith), (north 69 2 0 (omega arith), (north 68 1 1 (omega arith), tt))) e t)
 edge-most j J (as-open {m} {pairs} f d) e t = omega (arith, directed-long false j (j .n) m pairs d e t, d .n-most)
 edge-most j J (as-fenced {m} {pairs} f d) e t = omega (arith, directed-long true j (j .n) m pairs d e t, d .n-most)
 

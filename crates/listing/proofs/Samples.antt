@@ -18,23 +18,23 @@ use Rattle.rules.specs.Answers.{knownJob}
 use Rattle.listing.specs.Listing.{places, decimal, signedText, familyWord, endWord, countWord, refusedWord, headerText, lineText, linesText, refusedText, answerText, listingText}
 
 -- a block of the families 1 to 5
-abbrev corner : ℕ → ℕ → ℕ → List ℕ
-corner family n m = family ∷ n ∷ m ∷ replicate 17 0
+abbrev lettered : ℕ → ℕ → ℕ → List ℕ
+lettered family n m = family ∷ n ∷ m ∷ replicate 17 0
 
 -- the digits 0 to 9 are the bytes 48 to 57
 pub record Samples : Type 0 where
   pub motzkin-3 :
-      listingText (corner 5 3 3)
+      listingText (lettered 5 3 3)
       ≡ familyWord ++ (53 ∷ (endWord ++ (51 ∷ 32 ∷ 51 ∷ (countWord ++ (52 ∷ 10 ∷
       48 ∷ 32 ∷ D ∷ D ∷ D ∷ 10 ∷ 49 ∷ 32 ∷ E ∷ N ∷ D ∷ 10 ∷ 50 ∷ 32 ∷ E ∷ D ∷ N ∷ 10 ∷ 51 ∷ 32 ∷ D ∷ E ∷ N ∷ 10 ∷ [])))))
   -- an empty edge prints as `-`
-  pub empty-edge : listingText (corner 1 0 0) ≡ familyWord ++ (49 ∷ (endWord ++ (48 ∷ 32 ∷ 48 ∷ (countWord ++ (49 ∷ 10 ∷ 48 ∷ 32 ∷ 45 ∷ 10 ∷ [])))))
+  pub empty-edge : listingText (lettered 1 0 0) ≡ familyWord ++ (49 ∷ (endWord ++ (48 ∷ 32 ∷ 48 ∷ (countWord ++ (49 ∷ 10 ∷ 48 ∷ 32 ∷ 45 ∷ 10 ∷ [])))))
   -- with the step (1,-1), the end (1,-1): a negative m prints with a minus
   pub below : listingText (6 ∷ 1 ∷ 255 ∷ 1 ∷ 1 ∷ 255 ∷ replicate 14 0) ≡ familyWord ++ (54 ∷ (endWord ++ (49 ∷ 32 ∷ 45 ∷ 49 ∷ (countWord ++ (49 ∷ 10 ∷ 48 ∷ 32 ∷ 49 ∷ 10 ∷ [])))))
   -- no edge: the header alone
   pub no-edge : listingText (7 ∷ 1 ∷ 255 ∷ 1 ∷ 1 ∷ 255 ∷ replicate 14 0) ≡ familyWord ++ (55 ∷ (endWord ++ (49 ∷ 32 ∷ 45 ∷ 49 ∷ (countWord ++ (48 ∷ 10 ∷ [])))))
   pub short : listingText [] ≡ refusedWord ++ (49 ∷ 10 ∷ [])
-  pub far : listingText (corner 1 65 0) ≡ refusedWord ++ (50 ∷ 10 ∷ [])
+  pub far : listingText (lettered 1 65 0) ≡ refusedWord ++ (50 ∷ 10 ∷ [])
   pub most : decimal 18446744073709551615 ≡ 49 ∷ 56 ∷ 52 ∷ 52 ∷ 54 ∷ 55 ∷ 52 ∷ 52 ∷ 48 ∷ 55 ∷ 51 ∷ 55 ∷ 48 ∷ 57 ∷ 53 ∷ 53 ∷ 49 ∷ 54 ∷ 49 ∷ 53 ∷ []
   pub ten : decimal 10 ≡ 49 ∷ 48 ∷ []
 

@@ -31,9 +31,10 @@ use Rattle.job.specs.declared.Built.the-variants.{Refused}
 use Rattle.job.specs.Replies.{reply, buildSays}
 use Rattle.job.specs.Replies.Reply.{value, refusal}
 use Rattle.job.proofs.Makes.{twenty-of}
-use Rattle.lines.specs.Lines.{lined, lines, LinedAs}
+use Rattle.lines.specs.declared.Wrote.{Wrote}
+use Rattle.lines.specs.Lines.{lined, lines, LinedAs, builtOf, WroteAs}
 use Rattle.rules.proofs.Belows.{below-all}
-use Rattle.lines.proofs.Lining.{lines-roomy}
+use Rattle.lines.proofs.Lining.{lines-built}
 use Rattle.listing.specs.Listing.{headerText, linesText, refusedText, answerText, listingText}
 use Rattle.listing.specs.Texts.{Appended, edgeAt, Cut, Roomy, Counting, LinesOf}
 use Rattle.listing.proofs.Appending.{appended-then, appended-as}
@@ -118,13 +119,13 @@ module _ (b : List ℕ) (c : ℕ) (known : countAnswer b ≡ accepted c) (number
       ∙ ap (λ (t : Bool). check t beyond (accepted edges))
       (below-all (countOf job-of) ns (λ i l. omega (arith, ns-long, ns-at i (omega (arith, ns-long)), counted b c known .count, min-le-left c 1000)))
 
-  module _ (steps₀ ends₀ : List ℕ) (for-steps : length steps₀ ≡ 128000) (for-ends : length ends₀ ≡ 1000) (r : Built) (s t : List ℕ)
-      (w : LinedAs (lines (edgesAnswer b ns) ns steps₀ ends₀) r s t) where
+  module _ (steps₀ ends₀ : List ℕ) (for-steps : length steps₀ ≡ 128000) (for-ends : length ends₀ ≡ 1000) (v : Wrote) (r : Built) (s t : List ℕ)
+      (q : r ≡ builtOf v) (w : WroteAs (lines (edgesAnswer b ns) ns steps₀ ends₀) v s t) where
     lined-of : LinedAs (lined (accepted edges) steps₀ ends₀) r s t
     lined-of =
         rw edges-are at
-        (lines-roomy (edgesAnswer b ns) ns steps₀ ends₀ r s t
-        (record { for-steps = omega (arith, ns-long, many-most); for-ends = omega (arith, ns-long, many-most) }) w)
+        (lines-built (edgesAnswer b ns) ns steps₀ ends₀ v r s t
+        (record { for-steps = omega (arith, ns-long, many-most); for-ends = omega (arith, ns-long, many-most) }) q w)
 
     pub lines-ready : (text : List ℕ) (at : ℕ) → length s ≡ 128000 → at + 151000 ≤ length text → Roomy s t many text at
     unfolding lined

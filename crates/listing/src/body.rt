@@ -1,10 +1,12 @@
 // The lines of a listing, with the counts worked out once for all of them.
 ghost use mathlib.Core.Path.{_≡_};
 ghost use Prim.Native.Nat.{min};
+ghost use Rattle.lines.specs.Lines.{builtOf};
 ghost use Rattle.listing.specs.Listing.{linesText};
 ghost use Rattle.listing.specs.Texts.{Appended, edgeAt, Roomy, Counting, Bodied, LinesOf};
 use crate::pieces;
 use job::Built;
+use lines::Wrote;
 
 // "up to 1,000 lines"
 const LINES: usize = 1000;
@@ -55,6 +57,16 @@ fn lines_of(steps: &[u8], ends: &[usize], many: usize, text: &mut [u8], at: usiz
     place
 }
 
+// What was answered: there is room for 1,000 edges of any length.
+fn built(w: Wrote) -> Built
+    ensures { λ r. ⌜ r ≡ builtOf w ⌝ }
+{
+    match w {
+        Wrote::Answer(r) => r,
+        Wrote::NoRoom => Built::Refused(7),
+    }
+}
+
 pub(crate) fn lines(block: &[u8], count: u64, text: &mut [u8], at: usize) -> usize
     requires { ⌜ Bodied (now block) count (now text) at ⌝ }
     ensures { λ r. ⌜ LinesOf (now (block .entry)) (now (text .entry)) at r (now (text .exit)) ⌝ }
@@ -64,7 +76,7 @@ pub(crate) fn lines(block: &[u8], count: u64, text: &mut [u8], at: usize) -> usi
     let mut ends = [0usize; LINES];
     count_up(&mut numbers);
     let many = shown_of(count);
-    match calls::build_all(block, &numbers[..many], &mut steps, &mut ends) {
+    match built(calls::build_all(block, &numbers[..many], &mut steps, &mut ends)) {
         Built::Length(_) => lines_of(&steps, &ends, many, text, at),
         Built::Refused(_) => at, // never: each number is below the count, and there is room
     }

@@ -56,6 +56,7 @@ module _ (p : List ℕ) where
       let so : LaidOut p = laid-out p (holds e) in
       record {
         least = omega (arith, so .table);
+        few = so .few;
         edge = λ i l. record {
           table = omega (arith, so .table);
           rise = so .rise i (i + 1) (omega arith) (omega arith);

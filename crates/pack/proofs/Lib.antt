@@ -3,4 +3,3 @@ pub mod Listed
 pub mod Searches
 pub mod Knowing
 pub mod Reading
-pub mod Walking

@@ -2,7 +2,7 @@
 --
 --   packIn p                      the block and the edges of p
 --   read-bad, read-told           the refusal numbers 8, and 1 to 4
---   read-valid, read-invalid      the refusal numbers 0 and 5
+--   read-edges                    the refusal numbers 0 and 5
 --   Read p                        no question refuses p; read-of: from the refusal number 0
 --   part-refused, repeat-refused  the refusals of `readAnswer` are those of the questions
 --   repeat-at                     the repeat of a pack that is read
@@ -17,6 +17,7 @@ use native.Mathlib.Omega.{arith}
 use lib.Dec.{ltb}
 use lib.ListN.{length}
 use borrow.Author.Tests.{lt-ltb, le-ltb}
+use Rattle.howmany.specs.Choose.{pick}
 use Rattle.rules.specs.Jobs as rules
 use Rattle.rules.specs.Refusals.{Answer, check, andThen, refusalNumber}
 use Rattle.rules.specs.Refusals.Refusal.{not-an-edge, bad-pack, no-such-edge}
@@ -26,15 +27,14 @@ use Rattle.rules.specs.Packs.{Pack, packOf, laid, blockIn, countIn, offset}
 use Rattle.rules.specs.Questions.{readAnswer, allValid, Part, partAnswer, twiceIn, repeatAnswer}
 use Rattle.rules.proofs.Answering.{count-told, count-known}
 use Rattle.rules.proofs.PackLaws.{edges-length}
-use Rattle.job.specs.declared.Job.{Job}
 use Rattle.job.specs.Replies.{reply}
 use Rattle.job.specs.Replies.Reply.{value, refusal}
 use Rattle.job.proofs.Says.{value-not, value-one}
-use Rattle.pack.specs.Layout.{Laid, edgesIn}
+use Rattle.pack.specs.Layout.{Laid, edgesIn, EdgesAs}
 use Rattle.job.specs.Parts.{refusalIn}
-use Rattle.pack.specs.Validity.{AllWalkAs}
 use Rattle.pack.proofs.Layouts.{laid-of}
-use Rattle.pack.proofs.Knowing.{code-refusal, refused-then, some-number, Known}
+use Rattle.calls.proofs.Fitting.{Known}
+use Rattle.pack.proofs.Knowing.{code-refusal, refused-then, some-number}
 
 module _ (p : List ℕ) where
   abbrev packIn : Pack
@@ -65,16 +65,13 @@ module _ (p : List ℕ) where
       go (accepted J) q = absurd (value-not (sym (f ∙ ap reply (count-known (blockIn p) J q))))
       go (refused x) q = code-refusal (countAnswer (blockIn p)) r f ∙ ap refusalIn (count-told (blockIn p) x q) ∙ sym (ap refusalIn (read-known e (refused x) q))
 
-  module _ {j : Job} (e : laid p ≡ true) (k : Known (blockIn p) j) where
-    read-checked : (r : Bool) → AllWalkAs j (edgesIn p) r → readAnswer p ≡ check r not-an-edge (accepted packIn)
-    read-checked r f = read-known e (accepted (k .job)) (k .answer) ∙ ap (λ (t : Bool). check t not-an-edge (accepted packIn)) (sym (f (k .job) (k .stands)))
-
-    pub read-valid : (r : Bool) → AllWalkAs j (edgesIn p) r → r ≡ true → 0 ≡ refusalIn (readAnswer p)
-    read-valid r f q = sym (ap refusalIn (read-checked r f ∙ ap (λ (t : Bool). check t not-an-edge (accepted packIn)) q))
-
-    pub read-invalid : (r : Bool) → AllWalkAs j (edgesIn p) r → r ≡ false → 5 ≡ refusalIn (readAnswer p)
-    unfolding refusalNumber
-    read-invalid r f q = sym (ap refusalIn (read-checked r f ∙ ap (λ (t : Bool). check t not-an-edge (accepted packIn)) q))
+  pub read-edges : laid p ≡ true → Known (blockIn p) → (r : ℕ) → EdgesAs (blockIn p) (edgesIn p) r → r ≡ refusalIn (readAnswer p)
+  unfolding refusalNumber
+  read-edges e k r f = f (k .job) (k .made) ∙ go (allValid (k .job) (edgesIn p)) refl
+    where
+      go : (t : Bool) → allValid (k .job) (edgesIn p) ≡ t → pick t 0 5 ≡ refusalIn (readAnswer p)
+      go true q = sym (ap refusalIn (read-known e (accepted (k .job)) (k .answer) ∙ ap (λ (t : Bool). check t not-an-edge (accepted packIn)) q))
+      go false q = sym (ap refusalIn (read-known e (accepted (k .job)) (k .answer) ∙ ap (λ (t : Bool). check t not-an-edge (accepted packIn)) q))
 
   pub record Read : Type 0 where
     pub layout : Laid p

@@ -1,5 +1,3 @@
 pub mod Layout
 pub mod Parts
 pub mod Replies
-pub mod Validity
-pub mod Walks

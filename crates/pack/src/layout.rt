@@ -3,7 +3,7 @@ ghost use mathlib.Core.Path.{_≡_};
 ghost use Prim.Native.Nat.{ℕ, _+_, _≤_, _<_};
 ghost use lib.ListN.{length, take};
 ghost use Rattle.rules.specs.Packs.{countIn, laid, mark, offset, rises, sameBytes, word};
-ghost use Rattle.pack.specs.Layout.{EdgeAt, Offset};
+ghost use Rattle.pack.specs.Layout.{EdgeAt, EndsOf, Laid, Offset};
 ghost use Rattle.job.specs.Parts.{PartOf};
 use super::Pack;
 
@@ -44,6 +44,21 @@ pub(crate) fn edge_at(pack: &[u8], i: usize) -> &[u8]
     let start = offset_at(pack, i);
     let end = offset_at(pack, i + 1);
     &pack[start..end]
+}
+
+// Where each edge ends, for as many as there are: the offsets after the first.
+pub(crate) fn ends_of(pack: &[u8]) -> [usize; 200]
+    requires { ⌜ Laid (now pack) ⌝ }
+    ensures { λ r. ⌜ EndsOf (now (pack .entry)) r ⌝ }
+{
+    let c = edge_count(pack);
+    let mut ends = [0usize; 200];
+    let mut i: usize = 0;
+    while i < c {
+        ends[i] = offset_at(pack, i + 1);
+        i += 1;
+    }
+    ends
 }
 
 // "The first four bytes are `EDG1`".

@@ -10,7 +10,6 @@ ghost use Rattle.pack.specs.Replies.{partSays, repeatSays};
 mod layout;
 mod refusals;
 mod twice;
-mod walk;
 
 // The constants of a pack.
 pub struct Pack {}

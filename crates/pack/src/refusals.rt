@@ -2,15 +2,12 @@
 ghost use mathlib.Core.Path.{_≡_};
 ghost use Prim.Native.Nat.{ℕ};
 ghost use Rattle.rules.specs.Questions.{readAnswer};
-ghost use Rattle.pack.specs.Layout.{Laid, edgesIn};
+ghost use Rattle.pack.specs.Layout.{Laid, edgesIn, EdgesAs};
 ghost use Rattle.job.specs.Parts.{refusalIn};
-ghost use Rattle.pack.specs.Validity.{AllWalkAs};
-ghost use Rattle.pack.specs.Walks.{Held};
 use super::Pack;
 use super::layout;
-use super::walk;
 use job::Counted;
-use job::Job;
+use walks::Checked;
 
 // "8 first for packs; then 1, 2, 3, 4; .. then 5": the refusal number, 0 if none.
 pub(crate) fn refusal_of(pack: &[u8]) -> u8
@@ -22,26 +19,20 @@ pub(crate) fn refusal_of(pack: &[u8]) -> u8
     let block = &pack[Pack::BLOCK..Pack::COUNT];
     match calls::count(block) {
         Counted::Refused(r) => r,
-        Counted::Count(_) => {
-            let made = Job::of(block);
-            if all_valid(made.job, pack) { 0 } else { 5 }
-        },
+        Counted::Count(_) => edges_refusal(block, pack),
     }
 }
 
 // "every question on a pack checks all its edges, from index 0".
-fn all_valid(job: Job, pack: &[u8]) -> bool
-    requires held { ⌜ Held job ⌝ }
-    requires laid { ⌜ Laid (now pack) ⌝ }
-    ensures { λ r. ⌜ AllWalkAs job (edgesIn (now (pack .entry))) r ⌝ }
+fn edges_refusal(block: &[u8], pack: &[u8]) -> u8
+    requires { ⌜ Laid (now pack) ⌝ }
+    ensures { λ r. ⌜ EdgesAs (now (block .entry)) (edgesIn (now (pack .entry))) r ⌝ }
 {
     let c = layout::edge_count(pack);
-    let mut i: usize = 0;
-    while i < c {
-        if !walk::is_edge(job, layout::edge_at(pack, i)) {
-            return false;
-        }
-        i += 1;
+    let ends = layout::ends_of(pack);
+    match walks::walk_all(block, pack, layout::offset_at(pack, 0), &ends[..c]) {
+        Checked::Edges => 0,
+        Checked::Stops(_, _) => 5,
+        Checked::NoJob => 5, // never: the block has a count
     }
-    true
 }

@@ -1,5 +1,5 @@
 // Blocks, and a pack.
-pub(crate) fn corner(family: u8, n: u8, m: u8) -> [u8; 20] {
+pub(crate) fn lettered(family: u8, n: u8, m: u8) -> [u8; 20] {
     [
         family,
         n,

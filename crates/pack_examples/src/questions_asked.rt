@@ -1,10 +1,10 @@
 // The earlier of two edges, and dips.
-use crate::jobs::corner;
+use crate::jobs::lettered;
 use crate::jobs::with_t;
 use crate::say;
 
 fn earlier<'a>(a: &'a [u8], b: &'a [u8]) {
-    say::earlier(&corner(2, 4, 4), a, b);
+    say::earlier(&lettered(2, 4, 4), a, b);
 }
 
 fn two() {
@@ -16,7 +16,7 @@ fn two() {
     earlier(b"ENEEENNN", b"ENEEENNN");
     earlier(b"NEEEENNN", b"ENEEENNN");
     earlier(b"ENEEENNN", b"ENEEENN");
-    say::earlier(&corner(2, 37, 37), b"EN", b"NE");
+    say::earlier(&lettered(2, 37, 37), b"EN", b"NE");
 }
 
 // A job with T.
@@ -26,7 +26,7 @@ fn dip(family: u8, n: u8, m: u8, edge: &[u8]) {
 
 // A job of families 1 to 5.
 fn plain_dip(family: u8, n: u8, m: u8, edge: &[u8]) {
-    say::dip(&corner(family, n, m), edge);
+    say::dip(&lettered(family, n, m), edge);
 }
 
 fn dips() {

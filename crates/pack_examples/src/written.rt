@@ -1,6 +1,6 @@
 // Packs written, and read back.
-use crate::jobs::corner;
 use crate::jobs::empty_edges;
+use crate::jobs::lettered;
 use crate::jobs::twins;
 use crate::say;
 
@@ -24,7 +24,7 @@ fn few() {
 fn none() {
     let mut out = [b'.'; 30];
     say::text(b"no numbers\n");
-    say::write(&corner(5, 3, 3), &[], &mut out);
+    say::write(&lettered(5, 3, 3), &[], &mut out);
     say::text(&out[28..]);
     say::text(b"\n");
     say::edge(&out[0..28], 0);
@@ -33,7 +33,7 @@ fn none() {
 
 fn pack_of(numbers: &[u64]) {
     let mut out = [b'.'; 2000];
-    say::write(&corner(1, 3, 3), numbers, &mut out);
+    say::write(&lettered(1, 3, 3), numbers, &mut out);
     say::edge(&out[0..1628], 199);
     say::edge(&out[0..1628], 200);
     say::repeat(&out[0..1628]);
@@ -60,12 +60,12 @@ fn full() {
 
 // A pack of one edge, number 0.
 fn of_one(family: u8, n: u8, m: u8, out: &mut [u8]) {
-    say::write(&corner(family, n, m), &[0], out);
+    say::write(&lettered(family, n, m), &[0], out);
 }
 
 // A pack of two edges of Motzkin 3, the number 0 and another.
 fn of_two(other: u64, out: &mut [u8]) {
-    say::write(&corner(5, 3, 3), &[0, other], out);
+    say::write(&lettered(5, 3, 3), &[0, other], out);
 }
 
 fn refused() {
@@ -84,7 +84,7 @@ fn refused() {
 fn repeats() {
     let mut out = [b'.'; 48];
     say::text(b"A B B A, and empty edges\n");
-    say::write(&corner(5, 3, 3), &[0, 3, 3, 0], &mut out);
+    say::write(&lettered(5, 3, 3), &[0, 3, 3, 0], &mut out);
     say::repeat(&out);
     say::edge(&empty_edges(), 1);
     say::repeat(&empty_edges());

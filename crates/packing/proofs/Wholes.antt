@@ -33,8 +33,9 @@ use Rattle.job.specs.declared.Built.the-variants.{Length, Refused}
 use Rattle.job.specs.declared.Counted.{Counted}
 use Rattle.job.specs.declared.Counted.the-variants.{Count, Refused as CountRefused}
 use Rattle.job.proofs.Says.{value-one, value-not}
-use Rattle.lines.specs.Lines.{Room, endsFrom, lined, lines, LinedAs}
-use Rattle.lines.proofs.Lining.{lines-roomy, length-ends}
+use Rattle.lines.specs.declared.Wrote.{Wrote}
+use Rattle.lines.specs.Lines.{Room, endsFrom, lined, lines, LinedAs, builtOf, WroteAs}
+use Rattle.lines.proofs.Lining.{lines-built, length-ends}
 use Rattle.packing.specs.Packing.{frontOf, offsetsOf, packFrom, Packed, tooMany, TooMany}
 
 -- ---- the number of numbers
@@ -128,9 +129,10 @@ pub record Whole (b ns s t : List ℕ) (n : ℕ) : Type 0 where
   pub packed : Packed b (take (length ns) t) (take n s)
 
 module _ (b ns steps ends : List ℕ) (room : Room (length ns) (length steps) (length ends)) (few : length ns ≤ 200) where
-  pub whole-of : (x : Built) (n : ℕ) (s t : List ℕ) → x ≡ Length n → LinedAs (lines (edgesAnswer b ns) ns steps ends) x s t → length s ≤ 25600 → Whole b ns s t n
+  pub whole-of : (v : Wrote) (x : Built) (n : ℕ) (s t : List ℕ) → x ≡ builtOf v → x ≡ Length n → WroteAs (lines (edgesAnswer b ns) ns steps ends) v s t → length s ≤ 25600
+      → Whole b ns s t n
   unfolding lined
-  whole-of x n s t q w short = go (edgesAnswer b ns) refl (lines-roomy (edgesAnswer b ns) ns steps ends (Length n) s t room (rw q at w))
+  whole-of v x n s t e q w short = go (edgesAnswer b ns) refl (rw q at (lines-built (edgesAnswer b ns) ns steps ends v x s t room e w))
     where
       go : (a : Answer (List (List ℕ))) → edgesAnswer b ns ≡ a → LinedAs (lined a steps ends) (Length n) s t → Whole b ns s t n
       go (refused y) e v = absurd (value-not (v .says))
@@ -163,10 +165,10 @@ module _ (b ns steps ends : List ℕ) (room : Room (length ns) (length steps) (l
       let p : packFrom b (take (length ns) t) (take n s) ≡ packBytes b (w .edges) = ap₂ (packFrom b) (w .ends) (w .steps) ∙ from-ends b (w .edges) in
       rw (pack-is b ns out, packed-few b ns few, w .answer, sym p) h
 
-  pub whole-refused : (x : Built) (r : ℕ) (s t out : List ℕ) → x ≡ Refused r → LinedAs (lines (edgesAnswer b ns) ns steps ends) x s t → BuiltAs (packAnswer b ns out) (Refused r) out
+  pub whole-refused : (v : Wrote) (x : Built) (r : ℕ) (s t out : List ℕ) → x ≡ builtOf v → x ≡ Refused r → WroteAs (lines (edgesAnswer b ns) ns steps ends) v s t → BuiltAs (packAnswer b ns out) (Refused r) out
   unfolding lined written
-  whole-refused x r s t out q w =
-      rw (pack-is b ns out, packed-few b ns few) (go (edgesAnswer b ns) (lines-roomy (edgesAnswer b ns) ns steps ends (Refused r) s t room (rw q at w)))
+  whole-refused v x r s t out e q w =
+      rw (pack-is b ns out, packed-few b ns few) (go (edgesAnswer b ns) (rw q at (lines-built (edgesAnswer b ns) ns steps ends v x s t room e w)))
     where
       go : (a : Answer (List (List ℕ))) → LinedAs (lined a steps ends) (Refused r) s t → BuiltAs (written (andThen a (λ es. accepted (packBytes b es))) out) (Refused r) out
       go (accepted es) v = absurd (value-not (sym (v .says)))

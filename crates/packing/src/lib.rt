@@ -1,9 +1,12 @@
 // Packs written from a job block and a lent list of numbers (document 01, "Edge pack").
+ghost use mathlib.Core.Path.{_≡_};
 ghost use Rattle.rules.specs.Questions.{packAnswer};
 ghost use Rattle.job.specs.Replies.{BuiltAs};
+ghost use Rattle.lines.specs.Lines.{builtOf};
 ghost use Rattle.packing.specs.Packing.{TooMany};
 use job::Built;
 use job::Counted;
+use lines::Wrote;
 
 mod put; // put.rt: the parts of a pack, put to a lent output
 
@@ -17,9 +20,19 @@ pub fn write(block: &[u8], numbers: &[u64], out: &mut [u8]) -> Built
     }
     let mut steps = [0u8; 25600];
     let mut ends = [0usize; 200];
-    match calls::build_all(block, numbers, &mut steps, &mut ends) {
+    match built(calls::build_all(block, numbers, &mut steps, &mut ends)) {
         Built::Length(n) => put::put_pack(block, &ends[..c], &steps[..n], out),
         Built::Refused(r) => Built::Refused(r),
+    }
+}
+
+// What was answered: there is room for 200 edges of any length.
+fn built(w: Wrote) -> Built
+    ensures { λ r. ⌜ r ≡ builtOf w ⌝ }
+{
+    match w {
+        Wrote::Answer(r) => r,
+        Wrote::NoRoom => Built::Refused(7),
     }
 }
 

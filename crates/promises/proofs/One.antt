@@ -1,12 +1,15 @@
 -- Two results that meet one contract are equal. Assumes nothing.
 --
---   counted-one, sized-one, numbered-one    answers that say one reply: `count`, `width` and `number` of every crate
---   built-one                               a write: its answer and the output's bytes; `calls::build`, `packing::write` and `job::put`
---   lined-one                               `build_all` of every crate: its answer, the steps' bytes and the ends
---   equal-one                               a contract that is an equation: `Job::of`, `job::is_square`, `job::is_square_family`, `letters::place_of`,
---                                           `lines::has_room`, `lines::all_below`, `pack::edge_refusal`, `questions::earlier_refusal`
+--   counted-one, sized-one, numbered-one    answers that say one reply: `count`, `width` and `number` of `calls`, `plains::count`
+--   counting-one                            `count` of the crates of some families
+--   built-one                               a write: its answer and the output's bytes; `calls::build`, `packing::write`, `listing::write` and `job::put`
+--   wrote-one, building-one                 `build_all` of `calls`, and of the crates of some families: the answer, the steps' bytes and the ends
+--   ranked-one, numbering-one               `number_all`, likewise: the answer and the numbers
+--   walked-one, checked-one                 `walks::walk` and `walk_all`
+--   equal-one                               a contract that is an equation: `Job::of`, `job::family_of`, `job::is_plain`, `is_square`, `is_paired`,
+--                                           `letters::place_of`, `lines::has_room`, `lines::all_below`, `pack::edge_refusal`, `questions::earlier_refusal`
 --   which-one, dips-one, parted-one, repeats-one    `questions::compare` and `dip`, `pack::part` and `repeat`
---   Alike, part-one, edge-one, handed-one   what is handed back: `pack::edge` and `questions::earlier` point to one place, and hold the same bytes
+--   Alike, part-one, edge-one, handed-one   what is handed back: `lines::part`, `pack::edge` and `questions::earlier` point to one place, and hold the same bytes
 --   seen-one, seen-write-one, seen-dip-one, seen-second-one, seen-part-one, seen-repeat-one    the calls for C: the result and every lent byte
 use mathlib.Core.Path.{_≡_, refl, sym, ap, _∙_}
 use mathlib.Core.Bool.{Bool, true, false}
@@ -14,6 +17,7 @@ use mathlib.Core.List.{List}
 use mathlib.Core.Option.{Option, none, some}
 use Prim.Native.Nat.{ℕ}
 use denote.Ref.{RefT, ptr, now}
+use Rattle.howmany.specs.Choose.{onlyIf}
 use Rattle.rules.specs.Refusals.{Answer}
 use Rattle.rules.specs.Refusals.Answer.{accepted, refused}
 use Rattle.rules.specs.Answers.{Written}
@@ -27,10 +31,27 @@ use Rattle.job.specs.declared.Numbered.the-variants.{Number, Refused as NumberR
 use Rattle.job.specs.declared.Built.{Built}
 use Rattle.job.specs.declared.Built.the-variants.{Length, Refused as BuildRefused}
 use Rattle.job.specs.Parts.{PartOf}
-use Rattle.job.specs.Replies.{Reply, countSays, widthSays, numberSays, buildSays, BuiltAs}
+use Rattle.job.specs.Replies.{Reply, reply, countSays, widthSays, numberSays, buildSays, BuiltAs}
 use Rattle.job.specs.Replies.Reply.{value, refusal}
 use Rattle.job.proofs.Says.{told-one}
-use Rattle.lines.specs.Lines.{Lined, LinedAs}
+use Rattle.lines.specs.declared.Counting.{Counting}
+use Rattle.lines.specs.declared.Counting.the-variants.{NotMine as NoCount, Mine as CountMine}
+use Rattle.lines.specs.declared.Wrote.{Wrote}
+use Rattle.lines.specs.declared.Wrote.the-variants.{NoRoom as NoLines, Answer as Wrote·Answer}
+use Rattle.lines.specs.declared.Building.{Building}
+use Rattle.lines.specs.declared.Building.the-variants.{NotMine as NoEdges, Mine as EdgesMine}
+use Rattle.lines.specs.declared.Ranked.{Ranked}
+use Rattle.lines.specs.declared.Ranked.the-variants.{NoRoom as NoPlace, Upto, Refused as RanksRefused}
+use Rattle.lines.specs.declared.Numbering.{Numbering}
+use Rattle.lines.specs.declared.Numbering.the-variants.{NotMine as NoNumbers, Mine as NumbersMine}
+use Rattle.lines.specs.Lines.{Lines, wroteSays, WroteAs}
+use Rattle.lines.specs.Ranks.{Ranks, rankedSays, RankedAs}
+use Rattle.lines.specs.Mine.{countingSays, numberingSays, buildingSays, CountsFor, RanksFor, LinesFor}
+use Rattle.walks.specs.declared.Walked.{Walked}
+use Rattle.walks.specs.declared.Walked.the-variants.{NoJob, Edge, Stops}
+use Rattle.walks.specs.declared.Checked.{Checked}
+use Rattle.walks.specs.declared.Checked.the-variants.{NoJob as NoneKnown, Edges as AllEdges, Stops as StopsAt}
+use Rattle.walks.specs.Walks.{walkedSays, checkedSays}
 use Rattle.questions.specs.declared.Which.{Which}
 use Rattle.questions.specs.declared.Which.the-variants.{First, Second, Refused as WhichRefused}
 use Rattle.questions.specs.declared.Dips.{Dips}
@@ -91,8 +112,101 @@ says-one = told-one buildSays back same
 pub built-one : (w : Written) (r s : Built) (after next : List ℕ) → BuiltAs w r after → BuiltAs w s next → (r ≡ s) × (after ≡ next)
 built-one w r s after next p q = (says-one _ r s (p .says) (q .says), p .output ∙ sym (q .output))
 
-pub lined-one : (w : Lined) (r s : Built) (a b c d : List ℕ) → LinedAs w r a b → LinedAs w s c d → (r ≡ s) × (a ≡ c) × (b ≡ d)
-lined-one w r s a b c d p q = (says-one _ r s (p .says) (q .says), p .bytes ∙ sym (q .bytes), p .places ∙ sym (q .places))
+-- two things that say the same are equal, if what is said tells them
+said-one : {A B : Type 0} (says : B → A) (back : A → B) → ((r : B) → back (says r) ≡ r) → (y : A) (r s : B) → says r ≡ y → says s ≡ y → r ≡ s
+said-one says back h y r s p q = sym (h r) ∙ ap back (p ∙ sym q) ∙ h s
+
+pub counting-one : (mine : Bool) (a : Answer ℕ) (r s : Counting) → CountsFor mine a r → CountsFor mine a s → r ≡ s
+counting-one mine a = said-one countingSays back same (onlyIf mine (reply a))
+  where
+    back : Option (Reply ℕ) → Counting
+    back none = NoCount
+    back (some (value c)) = CountMine (Count c)
+    back (some (refusal k)) = CountMine (CountRefused k)
+
+    same : (r : Counting) → back (countingSays r) ≡ r
+    same NoCount = refl
+    same (CountMine (Count c)) = refl
+    same (CountMine (CountRefused k)) = refl
+
+wroteBack : Option (Reply ℕ) → Wrote
+wroteBack none = NoLines
+wroteBack (some (value l)) = Wrote·Answer (Length l)
+wroteBack (some (refusal k)) = Wrote·Answer (BuildRefused k)
+
+wrote-same : (r : Wrote) → wroteBack (wroteSays r) ≡ r
+unfolding wroteBack
+wrote-same NoLines = refl
+wrote-same (Wrote·Answer (Length l)) = refl
+wrote-same (Wrote·Answer (BuildRefused k)) = refl
+
+pub wrote-one : (w : Lines) (r s : Wrote) (a b c d : List ℕ) → WroteAs w r a b → WroteAs w s c d → (r ≡ s) × (a ≡ c) × (b ≡ d)
+wrote-one w r s a b c d p q =
+    (said-one wroteSays wroteBack wrote-same (w .told) r s (p .says) (q .says), p .bytes ∙ sym (q .bytes), p .places ∙ sym (q .places))
+
+pub building-one : (mine : Bool) (w : Lines) (r s : Building) (steps ends a b c d : List ℕ) → LinesFor mine w r steps ends a b → LinesFor mine w s steps ends c d
+    → (r ≡ s) × (a ≡ c) × (b ≡ d)
+building-one mine w r s steps ends a b c d p q =
+    (said-one buildingSays back same (onlyIf mine (w .told)) r s (p .says) (q .says), p .bytes ∙ sym (q .bytes), p .places ∙ sym (q .places))
+  where
+    back : Option (Option (Reply ℕ)) → Building
+    back none = NoEdges
+    back (some y) = EdgesMine (wroteBack y)
+
+    same : (r : Building) → back (buildingSays r) ≡ r
+    same NoEdges = refl
+    same (EdgesMine x) = ap EdgesMine (wrote-same x)
+
+rankedBack : Option (Reply ℕ) → Ranked
+rankedBack none = NoPlace
+rankedBack (some (value n)) = Upto n
+rankedBack (some (refusal k)) = RanksRefused k
+
+ranked-same : (r : Ranked) → rankedBack (rankedSays r) ≡ r
+unfolding rankedBack
+ranked-same NoPlace = refl
+ranked-same (Upto n) = refl
+ranked-same (RanksRefused k) = refl
+
+pub ranked-one : (w : Ranks) (r s : Ranked) (a c : List ℕ) → RankedAs w r a → RankedAs w s c → (r ≡ s) × (a ≡ c)
+ranked-one w r s a c p q = (said-one rankedSays rankedBack ranked-same (w .told) r s (p .says) (q .says), p .numbers-are ∙ sym (q .numbers-are))
+
+pub numbering-one : (mine : Bool) (w : Ranks) (r s : Numbering) (before a c : List ℕ) → RanksFor mine w r before a → RanksFor mine w s before c → (r ≡ s) × (a ≡ c)
+numbering-one mine w r s before a c p q = (said-one numberingSays back same (onlyIf mine (w .told)) r s (p .says) (q .says), p .numbers-are ∙ sym (q .numbers-are))
+  where
+    back : Option (Option (Reply ℕ)) → Numbering
+    back none = NoNumbers
+    back (some y) = NumbersMine (rankedBack y)
+
+    same : (r : Numbering) → back (numberingSays r) ≡ r
+    same NoNumbers = refl
+    same (NumbersMine x) = ap NumbersMine (ranked-same x)
+
+pub walked-one : (y : Option (Option ℕ)) (r s : Walked) → walkedSays r ≡ y → walkedSays s ≡ y → r ≡ s
+walked-one = said-one walkedSays back same
+  where
+    back : Option (Option ℕ) → Walked
+    back none = NoJob
+    back (some none) = Edge
+    back (some (some p)) = Stops p
+
+    same : (r : Walked) → back (walkedSays r) ≡ r
+    same NoJob = refl
+    same Edge = refl
+    same (Stops p) = refl
+
+pub checked-one : (y : Option (Option (ℕ × ℕ))) (r s : Checked) → checkedSays r ≡ y → checkedSays s ≡ y → r ≡ s
+checked-one = said-one checkedSays back same
+  where
+    back : Option (Option (ℕ × ℕ)) → Checked
+    back none = NoneKnown
+    back (some none) = AllEdges
+    back (some (some w)) = StopsAt (w .0) (w .1)
+
+    same : (r : Checked) → back (checkedSays r) ≡ r
+    same NoneKnown = refl
+    same AllEdges = refl
+    same (StopsAt i p) = refl
 
 pub equal-one : {A : Type 0} (x r s : A) → r ≡ x → s ≡ x → r ≡ s
 equal-one x r s p q = p ∙ sym q

@@ -5,12 +5,11 @@
 --   not-fallen, not-rising    where the loop goes on
 --   lettered, slopes       the bytes of a valid edge of family 6 or 7 are digits of its steps
 --   Looking, looking-start, looking-more, dips-at, dips-never    the loop of `first_rise`
---   kind-refused, kind-value                        the reply to a dip of families 1 to 5
---   dip-told, dip-kind, dip-refused, dip-digits, dip-value    the reply to a dip
+--   dip-told, dip-over, dip-kind, dip-stops, dip-none, dip-digits, dip-value    the reply to a dip, for each way through it
 use mathlib.Core.Path.{_≡_, refl, sym, ap, ap₂, _∙_, subst}
 use mathlib.Core.Bool.{Bool, true, false, _&&_, _||_, and-false}
 use mathlib.Core.List.{List, [], _∷_}
-use mathlib.Core.Option.{Option}
+use mathlib.Core.Option.{Option, none, some, Option·none-ne-some, Option·some-injective}
 use Prim.Native.Nat.{ℕ, zero, suc, _+_, _-_, _≤_, _<_}
 use native.Mathlib.Numerals.{add-one}
 use native.Mathlib.Nat.{not-suc-le-zero, le-of-suc-le-suc}
@@ -22,25 +21,26 @@ use lib.ListN.{length, getD}
 use borrow.Author.Tests.{lt-ltb, le-ltb, le-leb, lt-leb, ltb-true}
 use Rattle.howmany.specs.Choose.{pick, onlyIf}
 use Rattle.howmany.specs.Least.{least}
-use Rattle.howmany.proofs.Choices.{and-left, and-right, holds}
+use Rattle.howmany.proofs.Choices.{and-left, and-right, is-true, is-false, holds}
 use Rattle.howmany.proofs.Leasts.{least-on, least-at}
 use Rattle.rules.specs.Points.{Point, origin, moved, leℤ}
 use Rattle.rules.specs.Jobs as rules
 use Rattle.rules.specs.Jobs.{Pair, one, stepsOf, stays}
 use Rattle.rules.specs.Jobs.Job.{directed}
-use Rattle.rules.specs.Valid.{place, at, walks}
-use Rattle.rules.specs.Counts.{countOf}
-use Rattle.rules.specs.Numbers.{numberOf}
+use Rattle.rules.specs.Valid.{place, at, walks, isEdge, Valid}
+use Rattle.rules.specs.Places.{placeOf}
 use Rattle.rules.specs.Shear.{Is}
 use Rattle.rules.specs.Refusals.{Answer, check, andThen, refusalNumber}
-use Rattle.rules.specs.Refusals.Refusal.{over, not-an-edge, kind}
+use Rattle.rules.specs.Refusals.Refusal.{not-an-edge, kind}
 use Rattle.rules.specs.Refusals.Answer.{accepted, refused}
-use Rattle.rules.specs.Blocks.{jobAnswer}
-use Rattle.rules.specs.Answers.{most, knownJob, countAnswer, numberAnswer}
-use Rattle.rules.specs.Questions.{slope, fallen, dipOf, isDirected, dipAnswer}
+use Rattle.rules.specs.Blocks.{paired, jobAnswer}
+use Rattle.rules.specs.Answers.{knownJob, countAnswer}
+use Rattle.rules.specs.Jobs.{isDirected}
+use Rattle.rules.specs.Questions.{slope, fallen, dipOf, dipAnswer}
 use Rattle.rules.proofs.Letters.{place-letter}
 use Rattle.rules.proofs.Slopes.{numbered-length, digit-at}
-use Rattle.rules.proofs.Answering.{number-fitted}
+use Rattle.rules.proofs.Places.{place-none, place-wrong}
+use Rattle.rules.proofs.Answering.{known-told, count-known, count-told}
 use Rattle.job.specs.declared.Job.{Job}
 use Rattle.job.specs.Stands.{Directed, Stands}
 use Rattle.job.specs.Stands.Stands.{as-north-east, as-dyck, as-delannoy, as-schroder, as-motzkin, as-open, as-fenced}
@@ -48,9 +48,13 @@ use Rattle.job.specs.Replies.{reply}
 use Rattle.job.specs.Replies.Reply.{value, refusal}
 use Rattle.job.proofs.Standing.{Kept, Told}
 use Rattle.job.proofs.Says.{value-not}
+use Rattle.walks.specs.declared.Walked.{Walked}
+use Rattle.walks.specs.declared.Walked.the-variants.{NoJob, Edge, Stops}
+use Rattle.walks.specs.Walks.{walkOf, walkedSays}
+use Rattle.calls.proofs.Fitting.{known-of}
 use Rattle.questions.specs.declared.Dips.{Dips}
 use Rattle.questions.specs.declared.Dips.the-variants.{At, Never}
-use Rattle.questions.specs.Replies.{dipSays, kindAnswer}
+use Rattle.questions.specs.Replies.{dipSays}
 use Rattle.questions.specs.Steps.{Slopes, Digits, DipsAs}
 use Rattle.questions.proofs.Comparing.{carried}
 
@@ -83,7 +87,7 @@ lettered J (b ∷ e) p t (suc i) l =
 
 module _ (j : Job) (fenced : Bool) (m : ℤ) (pairs : List Pair) (d : Directed j m pairs) (e : List ℕ) where
   abbrev J : rules.Job
-  J = directed fenced (j .n) m pairs
+  J = directed fenced (j .n) m 0 pairs
 
   module _ (t : T (walks J origin e)) (i : ℕ) (l : i < length e) where
     abbrev here : ℕ
@@ -110,14 +114,27 @@ module _ (j : Job) (fenced : Bool) (m : ℤ) (pairs : List Pair) (d : Directed j
     adds = adds t;
   }
 
-pub slopes : {j : Job} {J : rules.Job} → Stands j J → (e : List ℕ) → 5 < j .family → walks J origin e ≡ true → Slopes (j .b) e J
-slopes {j} (as-north-east q v) e f t = absurd (omega arith)
-slopes {j} (as-dyck q v) e f t = absurd (omega arith)
-slopes {j} (as-delannoy q v) e f t = absurd (omega arith)
-slopes {j} (as-schroder q v) e f t = absurd (omega arith)
-slopes {j} (as-motzkin q v) e f t = absurd (omega arith)
+-- a family that has no pairs isn't one that has
+other : {f g : ℕ} → f ≡ g → paired g ≡ false → paired f ≡ true → ⊥
+other e q h = subst T (sym h ∙ (ap paired e ∙ q)) tt
+
+pub slopes : {j : Job} {J : rules.Job} → Stands j J → (e : List ℕ) → paired (j .family) ≡ true → isEdge J e ≡ true → Slopes (j .b) e J
+slopes {j} (as-north-east q v) e f t = absurd (other q refl f)
+slopes {j} (as-dyck q v) e f t = absurd (other q refl f)
+slopes {j} (as-delannoy q v) e f t = absurd (other q refl f)
+slopes {j} (as-schroder q v) e f t = absurd (other q refl f)
+slopes {j} (as-motzkin q v) e f t = absurd (other q refl f)
 slopes {j} (as-open {m} {pairs} q v) e f t = directed-slopes j false m pairs v e (holds t)
 slopes {j} (as-fenced {m} {pairs} q v) e f t = directed-slopes j true m pairs v e (holds t)
+
+directs : {j : Job} {J : rules.Job} → Stands j J → isDirected J ≡ paired (j .family)
+directs (as-north-east q v) = rw q refl
+directs (as-dyck q v) = rw q refl
+directs (as-delannoy q v) = rw q refl
+directs (as-schroder q v) = rw q refl
+directs (as-motzkin q v) = rw q refl
+directs (as-open q v) = rw q refl
+directs (as-fenced q v) = rw q refl
 
 -- ---- the loop of `first_rise`
 
@@ -201,119 +218,61 @@ module _ {b e : List ℕ} {down : Bool} {i : ℕ} (w : Looking b e down i) where
 
 -- ---- the replies
 
-module _ (block : List ℕ) where
-  pub kind-refused : (k : ℕ) → refusal k ≡ reply (countAnswer block) → refusal k ≡ reply (kindAnswer block)
-  unfolding countAnswer kindAnswer
-  kind-refused k e = go (knownJob block) e
+module _ (block e : List ℕ) where
+  -- what is asked of the job
+  abbrev asks : rules.Job → Answer (Option ℕ)
+  asks J = check (isDirected J) kind (check (isEdge J e) not-an-edge (accepted (dipOf J e)))
+
+  dip-then : (a : Answer rules.Job) → knownJob block ≡ a → dipAnswer block e ≡ andThen a asks
+  unfolding dipAnswer
+  dip-then a q = ap (λ (x : Answer rules.Job). andThen x asks) q
+
+  pub dip-told : {k : ℕ} → Told block k → refusal k ≡ reply (dipAnswer block e)
+  dip-told t = ap refusal (t .number) ∙ ap reply (sym (dip-then (refused (t .refusal)) (known-told block (t .refusal) (t .answer))))
+
+  pub dip-over : (k : ℕ) → refusal k ≡ reply (countAnswer block) → refusal k ≡ reply (dipAnswer block e)
+  dip-over k h = go (knownJob block) refl
     where
-      go : (a : Answer rules.Job) → refusal k ≡ reply (andThen a (λ J. accepted (countOf J))) → refusal k ≡ reply (andThen {B = Option ℕ} a (λ J. refused kind))
-      go (accepted J) e = absurd (value-not (sym e))
-      go (refused r) e = carried k (refusalNumber r) e
+      go : (a : Answer rules.Job) → knownJob block ≡ a → refusal k ≡ reply (dipAnswer block e)
+      go (accepted J) q = absurd (value-not (sym (h ∙ ap reply (count-known block J q))))
+      go (refused x) q = carried k (refusalNumber x) (h ∙ ap reply (count-told block x q)) ∙ ap reply (sym (dip-then (refused x) q))
 
-  pub kind-value : (c : ℕ) → value c ≡ reply (countAnswer block) → refusal 11 ≡ reply (kindAnswer block)
-  unfolding countAnswer kindAnswer refusalNumber
-  kind-value c e = go (knownJob block) e
-    where
-      go : (a : Answer rules.Job) → value c ≡ reply (andThen a (λ J. accepted (countOf J))) → refusal 11 ≡ reply (andThen {B = Option ℕ} a (λ J. refused kind))
-      go (accepted J) e = refl
-      go (refused r) e = absurd (value-not e)
+  module _ {j : Job} (h : Kept block j) {n : ℕ} (v : value n ≡ reply (countAnswer block)) where
+    fitting : knownJob block ≡ accepted (h .job)
+    fitting = let k = known-of block n v in k .answer ∙ sym (k .made) ∙ h .answer
 
-  module _ (e : List ℕ) where
-    -- what is asked of the job
-    abbrev asks : rules.Job → Answer (Option ℕ)
-    asks J = check (isDirected J) kind (check (walks J origin e) not-an-edge (accepted (dipOf J e)))
+    dip-asked : (d t : Bool) → paired (j .family) ≡ d → isEdge (h .job) e ≡ t → dipAnswer block e ≡ check d kind (check t not-an-edge (accepted (dipOf (h .job) e)))
+    dip-asked d t p q =
+        dip-then (accepted (h .job)) fitting
+        ∙ ap₂ (λ (d t : Bool). check d kind (check t not-an-edge (accepted (dipOf (h .job) e)))) (directs (h .stands) ∙ p) q
 
-    dip-job : (a : Answer rules.Job) → jobAnswer block ≡ a → dipAnswer block e ≡ andThen (andThen a (λ J. check (leb (countOf J) most) over (accepted J))) asks
-    unfolding dipAnswer knownJob
-    dip-job a q = ap (λ (x : Answer rules.Job). andThen (andThen x (λ J. check (leb (countOf J) most) over (accepted J))) asks) q
+    pub dip-kind : paired (j .family) ≡ false → refusal 11 ≡ reply (dipAnswer block e)
+    unfolding refusalNumber
+    dip-kind p = sym (ap reply (dip-asked false (isEdge (h .job) e) p refl))
 
-    pub dip-told : {k : ℕ} → Told block k → refusal k ≡ reply (dipAnswer block e)
-    dip-told t = ap refusal (t .number) ∙ ap reply (sym (dip-job (refused (t .refusal)) (t .answer)))
+    module _ (p : paired (j .family) ≡ true) (x : Walked) (w : walkedSays x ≡ walkOf (jobAnswer block) e) where
+      place-told : walkedSays x ≡ some (placeOf (h .job) e)
+      place-told = w ∙ ap (λ (a : Answer rules.Job). walkOf a e) (h .answer)
 
-    module _ {j : Job} (h : Kept block j) where
-      abbrev fits : Bool
-      fits = leb (countOf (h .job)) most
+      pub dip-stops : {i : ℕ} → x ≡ Stops i → refusal 5 ≡ reply (dipAnswer block e)
+      unfolding refusalNumber Valid
+      dip-stops {i} q =
+          let z : some i ≡ placeOf (h .job) e = Option·some-injective (some i) (placeOf (h .job) e) (sym (ap walkedSays q) ∙ place-told) in
+          sym (ap reply (dip-asked true false p (is-false (isEdge (h .job) e) (place-wrong (h .job) e i .0 (sym z) .invalid))))
 
-      dip-fitted : dipAnswer block e ≡ check fits over (asks (h .job))
-      dip-fitted = dip-job (accepted (h .job)) (h .answer) ∙ go fits
-        where
-          go : (t : Bool) → andThen (check t over (accepted (h .job))) asks ≡ check t over (asks (h .job))
-          go true = refl
-          go false = refl
+      pub dip-none : x ≡ NoJob → ⊥
+      dip-none q = Option·none-ne-some (placeOf (h .job) e) (sym (ap walkedSays q) ∙ place-told)
 
-      cornered : {J : rules.Job} → Stands j J → j .family ≤ 5 → isDirected J ≡ false
-      cornered (as-north-east q v) l = refl
-      cornered (as-dyck q v) l = refl
-      cornered (as-delannoy q v) l = refl
-      cornered (as-schroder q v) l = refl
-      cornered (as-motzkin q v) l = refl
-      cornered (as-open q v) l = absurd (omega arith)
-      cornered (as-fenced q v) l = absurd (omega arith)
+      module _ (q : x ≡ Edge) where
+        valid : isEdge (h .job) e ≡ true
+        unfolding Valid
+        valid =
+            let z : none ≡ placeOf (h .job) e = Option·some-injective none (placeOf (h .job) e) (sym (ap walkedSays q) ∙ place-told) in
+            is-true (isEdge (h .job) e) (place-none (h .job) e .1 (sym z))
 
-      sloped : {J : rules.Job} → Stands j J → 5 < j .family → isDirected J ≡ true
-      sloped (as-north-east q v) l = absurd (omega arith)
-      sloped (as-dyck q v) l = absurd (omega arith)
-      sloped (as-delannoy q v) l = absurd (omega arith)
-      sloped (as-schroder q v) l = absurd (omega arith)
-      sloped (as-motzkin q v) l = absurd (omega arith)
-      sloped (as-open q v) l = refl
-      sloped (as-fenced q v) l = refl
+        pub dip-digits : Digits j e
+        dip-digits = record { job = h .job; slopes = slopes (h .stands) e p valid }
 
-      kind-fitted : kindAnswer block ≡ check fits over (refused kind)
-      unfolding kindAnswer knownJob
-      kind-fitted = ap (λ (x : Answer rules.Job). andThen (andThen x (λ J. check (leb (countOf J) most) over (accepted J))) (λ J. refused kind)) (h .answer) ∙ go fits
-        where
-          go : (t : Bool) → andThen {B = Option ℕ} (check t over (accepted (h .job))) (λ J. refused kind) ≡ check t over (refused kind)
-          go true = refl
-          go false = refl
-
-      pub dip-kind : j .family ≤ 5 → kindAnswer block ≡ dipAnswer block e
-      dip-kind l =
-          kind-fitted
-          ∙ sym (dip-fitted ∙ ap (λ (d : Bool). check fits over (check d kind (check (walks (h .job) origin e) not-an-edge (accepted (dipOf (h .job) e))))) (cornered (h .stands) l))
-
-      module _ (l : 5 < j .family) where
-        -- refusals 4 and 5 are those of the edge's number
-        valued : Bool → Bool → Answer (Option ℕ)
-        valued t w = check t over (check w not-an-edge (accepted (dipOf (h .job) e)))
-
-        numbered-too : Bool → Bool → Answer ℕ
-        numbered-too t w = check t over (check w not-an-edge (accepted (numberOf (h .job) e)))
-
-        dip-sloped : dipAnswer block e ≡ valued fits (walks (h .job) origin e)
-        unfolding valued
-        dip-sloped = dip-fitted ∙ ap (λ (d : Bool). check fits over (check d kind (check (walks (h .job) origin e) not-an-edge (accepted (dipOf (h .job) e))))) (sloped (h .stands) l)
-
-        number-is : numberAnswer block e ≡ numbered-too fits (walks (h .job) origin e)
-        unfolding numbered-too
-        number-is = number-fitted block e (h .job) (h .answer)
-
-        pub dip-refused : (k : ℕ) → refusal k ≡ reply (numberAnswer block e) → refusal k ≡ reply (dipAnswer block e)
-        unfolding valued numbered-too
-        dip-refused k q = go fits (walks (h .job) origin e) (q ∙ ap reply number-is) ∙ ap reply (sym dip-sloped)
-          where
-            go : (t w : Bool) → refusal k ≡ reply (numbered-too t w) → refusal k ≡ reply (valued t w)
-            go true true q = absurd (value-not (sym q))
-            go true false q = carried k (refusalNumber not-an-edge) q
-            go false w q = carried k (refusalNumber over) q
-
-        module _ (x : ℕ) (q : value x ≡ reply (numberAnswer block e)) where
-          both-true : (fits ≡ true) × (walks (h .job) origin e ≡ true)
-          unfolding numbered-too
-          both-true = go fits (walks (h .job) origin e) (q ∙ ap reply number-is)
-            where
-              go : (t w : Bool) → value x ≡ reply (numbered-too t w) → (t ≡ true) × (w ≡ true)
-              go true true q = (refl, refl)
-              go true false q = absurd (value-not q)
-              go false w q = absurd (value-not q)
-
-          pub dip-digits : Digits j e
-          dip-digits = record { job = h .job; slopes = slopes (h .stands) e l (both-true .1) }
-
-          dip-accepted : dipAnswer block e ≡ accepted (dipOf (h .job) e)
-          unfolding valued
-          dip-accepted = dip-sloped ∙ ap₂ valued (both-true .0) (both-true .1)
-
-          pub dip-value : (r : Dips) → DipsAs j e r → dipSays r ≡ reply (dipAnswer block e)
-          unfolding dip-digits
-          dip-value r f = f (h .job) (dip-digits .slopes) ∙ ap reply (sym dip-accepted)
+        pub dip-value : (r : Dips) → DipsAs j e r → dipSays r ≡ reply (dipAnswer block e)
+        unfolding dip-digits
+        dip-value r f = f (h .job) (dip-digits .slopes) ∙ ap reply (sym (dip-asked true true p valid))

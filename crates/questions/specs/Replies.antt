@@ -2,7 +2,6 @@
 --
 --   whichSays, dipSays      the reply that each case of an enum stands for
 --   whichOf second          the case for the second edge, or for the first
---   kindAnswer block        the answer to a dip of families 1 to 5
 --   Handed a first second r    what the earlier of two hands back
 use mathlib.Core.Path.{_≡_}
 use mathlib.Core.Bool.{Bool, true, false}
@@ -10,10 +9,8 @@ use mathlib.Core.List.{List}
 use mathlib.Core.Option.{Option, none, some}
 use Prim.Native.Nat.{ℕ}
 use denote.Ref.{RefT}
-use Rattle.rules.specs.Refusals.{Answer, andThen}
-use Rattle.rules.specs.Refusals.Refusal.{kind}
+use Rattle.rules.specs.Refusals.{Answer}
 use Rattle.rules.specs.Refusals.Answer.{accepted, refused}
-use Rattle.rules.specs.Answers.{knownJob}
 use Rattle.job.specs.Parts.{PartOf}
 use Rattle.job.specs.Replies.{Reply}
 use Rattle.job.specs.Replies.Reply.{value, refusal}
@@ -37,11 +34,6 @@ abbrev pub dipSays : Dips → Reply (Option ℕ)
 dipSays (At i) = value (some i)
 dipSays Never = value none
 dipSays (DipRefused r) = refusal r
-
--- "then 1, 2, 3, 4; then 10, 11"; "11 Kind: dip asked in families 1 to 5"
-unfoldable pub kindAnswer : List ℕ → Answer (Option ℕ)
-unfolding knownJob
-kindAnswer block = andThen (knownJob block) (λ J. refused kind)
 
 -- "handed back is the lent edge itself, not a copy; of equal ones the first"; "a refusal hands back the empty part at the front of .. the
 -- first lent edge"

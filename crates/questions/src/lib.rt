@@ -5,12 +5,13 @@ ghost use lib.Dec.{ltb};
 ghost use Rattle.rules.specs.Questions.{secondAnswer, dipAnswer};
 ghost use Rattle.job.specs.Parts.{refusalIn};
 ghost use Rattle.job.specs.Replies.{reply};
-ghost use Rattle.questions.specs.Replies.{whichSays, dipSays, whichOf, Handed, kindAnswer};
+ghost use Rattle.questions.specs.Replies.{whichSays, dipSays, whichOf, Handed};
 ghost use Rattle.questions.specs.Steps.{Digits, DipsAs};
 use job::Counted;
 use job::Job;
 use job::Numbered;
 use job::Step;
+use walks::Walked;
 
 // Which of two edges is the earlier, or a refusal number.
 pub enum Which {
@@ -109,17 +110,8 @@ fn first_rise(job: Job, edge: &[u8]) -> Dips
     Dips::Never
 }
 
-// "11 Kind: dip asked in families 1 to 5", after refusal 4.
-fn kind(block: &[u8]) -> Dips
-    ensures { λ r. ⌜ dipSays r ≡ reply (kindAnswer (now (block .entry))) ⌝ }
-{
-    match calls::count(block) {
-        Counted::Count(_) => Dips::Refused(11),
-        Counted::Refused(r) => Dips::Refused(r),
-    }
-}
-
-// Whether an edge of family 6 or 7 dips, and where (document 01, "Questions on edges").
+// Whether an edge of family 6 or 7 dips, and where (document 01, "Questions on edges"): it is walked, not numbered. "11 Kind: dip asked in
+// families 1 to 5", after refusal 4 and before 5.
 pub fn dip(block: &[u8], edge: &[u8]) -> Dips
     ensures { λ r. ⌜ dipSays r ≡ reply (dipAnswer (now (block .entry)) (now (edge .entry))) ⌝ }
 {
@@ -128,12 +120,16 @@ pub fn dip(block: &[u8], edge: &[u8]) -> Dips
     if refusal != 0 {
         return Dips::Refused(refusal);
     }
-    let job = made.job;
-    if job.family <= Job::CORNERS {
-        return kind(block);
+    if let Counted::Refused(r) = calls::count(block) {
+        return Dips::Refused(r);
     }
-    match calls::number(block, edge) {
-        Numbered::Number(_) => first_rise(job, edge),
-        Numbered::Refused(r) => Dips::Refused(r),
+    let job = made.job;
+    if !job::is_paired(job.family) {
+        return Dips::Refused(11);
+    }
+    match walks::walk(block, edge) {
+        Walked::Edge => first_rise(job, edge),
+        Walked::Stops(_) => Dips::Refused(5),
+        Walked::NoJob => Dips::Refused(5), // never: the block has a job
     }
 }

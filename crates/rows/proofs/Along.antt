@@ -1,9 +1,9 @@
 -- A table filled row by row. Assumes nothing.
 --
 --   low, across                what the row below brings to the next cell, by the step (1,1) and by (2,1)
---   corner-next, corner-first  a cell from the one before it; the first cell of a row
---   corner-under               there are no walks to a row beyond the column
---   corner-most                no count before the end is above the end's
+--   plain-next, plain-first  a cell from the one before it; the first cell of a row
+--   plain-under               there are no walks to a row beyond the column
+--   plain-most                no count before the end is above the end's
 --   rem-one, place-one         a place is one row's and one column's
 --   rows-none, rows-more, rows-next, rows-got    the rows so far: none yet, one cell more, a row more, and all of them
 --   below-is, across-is, first-is, first-one     what is read from the row below
@@ -30,7 +30,7 @@ use Rattle.tables.specs.declared.Plan as plans
 use Rattle.tables.specs.Table.{Slopes, Ends, Table}
 use Rattle.tables.specs.Plans.{strideFor, PreparedFor, walksFor}
 use Rattle.tables.specs.Filling.{Filled}
-use Rattle.rows.specs.Rows.{Rises, Corner, CorneredFor, Done, Rows, RowsFor, Rowing, Risen}
+use Rattle.rows.specs.Rows.{Rises, Plain, PlainStepsFor, Done, Rows, RowsFor, Rowing, Risen}
 use Rattle.tables.proofs.Walls.{wall-level}
 use Rattle.tables.proofs.Laws.{via-left, via-under, via-in, W-start, W-step, cap-ge}
 use Rattle.tables.proofs.Counts.{pos-of, W-high}
@@ -70,7 +70,7 @@ module _ (k f : ℕ) (sa sc : List ℕ) where
       let g : suc y - getD sc i 0 ≡ y = omega arith in
       via-in k f sa sc (suc (suc u)) (suc y) i (omega arith) (omega arith) ∙ ap₂ (W k f sa sc) e g
 
-  module _ {hi m ex : ℕ} (pl : Slopes k sa sc hi m ex) (slope : hi ≡ 6) (three : Bool) (co : Corner three k f sa sc) where
+  module _ {hi m ex : ℕ} (pl : Slopes k sa sc hi m ex) (slope : hi ≡ 6) (three : Bool) (co : Plain three k f sa sc) where
     two-steps : (u y : ℕ) → via k f sa sc (suc u) y 0 + via k f sa sc (suc u) y 1 ≡ W k f sa sc u y + low u y
     two-steps u y = go (co .rise)
       where
@@ -78,9 +78,9 @@ module _ (k f : ℕ) (sa sc : List ℕ) where
         go (inl h) = omega (arith, rise-step 0 u y (co .one) (h .0), flat-step 1 u y (co .two) (h .1))
         go (inr h) = omega (arith, flat-step 0 u y (co .one) (h .0), rise-step 1 u y (co .two) (h .1))
 
-    pub corner-next : (u y : ℕ) → W k f sa sc (suc u) y ≡ W k f sa sc u y + low u y + across three u y
+    pub plain-next : (u y : ℕ) → W k f sa sc (suc u) y ≡ W k f sa sc u y + low u y + across three u y
     unfolding sum
-    corner-next u y =
+    plain-next u y =
         W-step k f sa sc (pos-of pl) (suc u) y (omega arith) (wall-level f (suc u) y (co .level))
         ∙ ap (sum (via k f sa sc (suc u) y)) (co .many) ∙ go three (co .third)
       where
@@ -88,32 +88,32 @@ module _ (k f : ℕ) (sa sc : List ℕ) where
         go true h = omega (arith, two-steps u y, across-step 2 u y (h refl .0) (h refl .1))
         go false h = omega (arith, two-steps u y)
 
-    pub corner-under : (u y : ℕ) → u ≤ ex → u < y → W k f sa sc u y ≡ 0
-    corner-under u y l h = W-high k f sa sc pl u u y (omega arith) l (omega (arith, ap (λ (z : ℕ). z * u) slope))
+    pub plain-under : (u y : ℕ) → u ≤ ex → u < y → W k f sa sc u y ≡ 0
+    plain-under u y l h = W-high k f sa sc pl u u y (omega arith) l (omega (arith, ap (λ (z : ℕ). z * u) slope))
 
     across-first : (b : Bool) (y : ℕ) → y ≤ ex → across b y (suc y) ≡ 0
     across-first false y l = refl
     across-first true zero l = refl
-    across-first true (suc y) l = corner-under y (suc y) (omega arith) (omega arith)
+    across-first true (suc y) l = plain-under y (suc y) (omega arith) (omega arith)
 
-    pub corner-first : (y : ℕ) → suc y ≤ ex → W k f sa sc (suc y) (suc y) ≡ W k f sa sc y y
-    corner-first y l = omega (arith, corner-next y (suc y), corner-under y (suc y) (omega arith) (omega arith), across-first three y (omega arith))
+    pub plain-first : (y : ℕ) → suc y ≤ ex → W k f sa sc (suc y) (suc y) ≡ W k f sa sc y y
+    plain-first y l = omega (arith, plain-next y (suc y), plain-under y (suc y) (omega arith) (omega arith), across-first three y (omega arith))
 
     up-most : (d u y : ℕ) → W k f sa sc u y ≤ W k f sa sc (u + d) (y + d)
     up-most zero u y = let e : u + 0 ≡ u = omega arith in let g : y + 0 ≡ y = omega arith in rw (e, g) (omega arith)
     up-most (suc d) u y =
         let e : u + suc d ≡ suc u + d = omega arith in
         let g : y + suc d ≡ suc y + d = omega arith in
-        rw (e, g) (le-trans (omega (arith, corner-next u (suc y))) (up-most d (suc u) (suc y)))
+        rw (e, g) (le-trans (omega (arith, plain-next u (suc y))) (up-most d (suc u) (suc y)))
 
     right-most : (r u y : ℕ) → W k f sa sc u y ≤ W k f sa sc (u + r) y
     right-most zero u y = let e : u + 0 ≡ u = omega arith in rw e (omega arith)
     right-most (suc r) u y =
         let e : u + suc r ≡ suc u + r = omega arith in
-        rw e (le-trans (omega (arith, corner-next u y)) (right-most r (suc u) y))
+        rw e (le-trans (omega (arith, plain-next u y)) (right-most r (suc u) y))
 
-    pub corner-most : (u y ey : ℕ) → y ≤ ey → ey ≤ ex → u ≤ y + (ex - ey) → W k f sa sc u y ≤ W k f sa sc ex ey
-    corner-most u y ey l h w =
+    pub plain-most : (u y ey : ℕ) → y ≤ ey → ey ≤ ex → u ≤ y + (ex - ey) → W k f sa sc u y ≤ W k f sa sc ex ey
+    plain-most u y ey l h w =
         let d : ℕ = ey - y in
         let r : ℕ = ex - (u + d) in
         let e : u + d + r ≡ ex = omega arith in
@@ -205,7 +205,7 @@ module _ {k f : ℕ} {sa sc : List ℕ} {m ey n : ℕ} {val : List ℕ} where
       on u v (inr d) = inl (omega (arith, d .0))
 
 -- all the rows: the whole table is right
-module _ {k f : ℕ} {sa sc : List ℕ} {hi m ex ey : ℕ} {val : List ℕ} (pl : Slopes k sa sc hi m ex) (slope : hi ≡ 6) (three : Bool) (co : Corner three k f sa sc) (wide : ey ≤ ex) (rs : Rows k f sa sc m ey (ex - ey) val (ey + 1) 0) where
+module _ {k f : ℕ} {sa sc : List ℕ} {hi m ex ey : ℕ} {val : List ℕ} (pl : Slopes k sa sc hi m ex) (slope : hi ≡ 6) (three : Bool) (co : Plain three k f sa sc) (wide : ey ≤ ex) (rs : Rows k f sa sc m ey (ex - ey) val (ey + 1) 0) where
   done-le : (u v : ℕ) → Done (ey + 1) 0 u v → v ≤ u → v ≤ ey
   done-le u v (inl l) a = omega arith
   done-le u v (inr d) a = absurd (omega (arith, d .0, d .1))
@@ -218,7 +218,7 @@ module _ {k f : ℕ} {sa sc : List ℕ} {hi m ex ey : ℕ} {val : List ℕ} (pl 
     | yes a ↦ rs .right u y (inl (omega (arith, en .0))) a (omega (arith, en .0, en .1, ap (λ (z : ℕ). z * (ex - u)) slope))
     | no a ↦ rs .other (place m ey u y)
         (λ x v d b c e. let q = place-one m ey u y x v (en .0) (done-le x v d b) e in a (omega (arith, q .0, q .1)))
-        ∙ sym (corner-under k f sa sc pl slope three co u y (omega arith) (omega arith))
+        ∙ sym (plain-under k f sa sc pl slope three co u y (omega arith) (omega arith))
   ]
 
   pub rows-got : Table k f sa sc hi m ex ey val (ex + 1)
@@ -262,7 +262,7 @@ module _ {k f : ℕ} {sa sc : List ℕ} {m ey n : ℕ} {val : List ℕ} {y : ℕ
           same = let q : y + i ≡ x + 1 = omega arith in ap (λ (t : ℕ). t * strideOf m ey) q
 
 -- the first cell of a row is the one before it on the diagonal
-module _ {k f : ℕ} {sa sc : List ℕ} {hi m ex ey : ℕ} {val : List ℕ} (pl : Slopes k sa sc hi m ex) (slope : hi ≡ 6) (three : Bool) (co : Corner three k f sa sc) {n y : ℕ} (rs : Rows k f sa sc m ey n val y 0) (in-row : y ≤ ey) (wide : ey ≤ ex) where
+module _ {k f : ℕ} {sa sc : List ℕ} {hi m ex ey : ℕ} {val : List ℕ} (pl : Slopes k sa sc hi m ex) (slope : hi ≡ 6) (three : Bool) (co : Plain three k f sa sc) {n y : ℕ} (rs : Rows k f sa sc m ey n val y 0) (in-row : y ≤ ey) (wide : ey ≤ ex) where
   pub first-is : (p : ℕ) → p ≡ place m ey y y → (y ≡ 0 → ⊥) → getD val (p - strideOf m ey - 1) 0 ≡ W k f sa sc (y + 0) y
   first-is p ep h = go y refl
     where
@@ -272,7 +272,7 @@ module _ {k f : ℕ} {sa sc : List ℕ} {hi m ex ey : ℕ} {val : List ℕ} (pl 
           let g : p - strideOf m ey - 1 ≡ place m ey z z = omega (arith, one-more (strideOf m ey) y, same) in
           let q : y + 0 ≡ suc z = omega arith in
           let r : y ≡ suc z = sym e in
-          rw (g, q) (rs .right z z (inl (omega arith)) (omega arith) (omega arith) ∙ sym (corner-first k f sa sc pl slope three co z (omega arith)) ∙ ap (W k f sa sc (suc z)) e)
+          rw (g, q) (rs .right z z (inl (omega arith)) (omega arith) (omega arith) ∙ sym (plain-first k f sa sc pl slope three co z (omega arith)) ∙ ap (W k f sa sc (suc z)) e)
         where
           same : y * strideOf m ey ≡ (z + 1) * strideOf m ey
           same = let q : y ≡ z + 1 = omega arith in ap (λ (t : ℕ). t * strideOf m ey) q
@@ -283,7 +283,7 @@ module _ {k f : ℕ} {sa sc : List ℕ} {hi m ex ey : ℕ} {val : List ℕ} (pl 
 -- ---- the loop along row y: cell is where the one in column y + i stands, and sum its count
 pub record Along (p : plans.Plan) (sa sc off : List ℕ) (y : ℕ) (val : List ℕ) (cell sum i : ℕ) : Type 0 where
   pub ready : PreparedFor p sa sc off (length val)
-  pub steps : CorneredFor p sa sc
+  pub steps : PlainStepsFor p sa sc
   pub inside : y ≤ p .ey
   pub rows : RowsFor p sa sc val y (i + 1)
   pub le : i ≤ p .ex - p .ey
@@ -310,8 +310,8 @@ module _ {p : plans.Plan} {sa sc off : List ℕ} {y : ℕ} {val : List ℕ} (w :
   first-value cell sum ep e = go (ℕ-discrete y 0)
     where
       go : Dec (y ≡ 0) → sum ≡ W (p .k) (p .f) sa sc (y + 0) y
-      go (yes z) = e ∙ rw (eq-eqb y 0 z) (first-one (w .ready .slopes) (w .steps .slope) _ (w .steps .corner) (w .rows) (w .inside) (w .steps .wide) z)
-      go (no z) = e ∙ rw (ne-eqb y 0 z) (first-is (w .ready .slopes) (w .steps .slope) _ (w .steps .corner) (w .rows) (w .inside) (w .steps .wide) cell ep z)
+      go (yes z) = e ∙ rw (eq-eqb y 0 z) (first-one (w .ready .slopes) (w .steps .slope) _ (w .steps .plain) (w .rows) (w .inside) (w .steps .wide) z)
+      go (no z) = e ∙ rw (ne-eqb y 0 z) (first-is (w .ready .slopes) (w .steps .slope) _ (w .steps .plain) (w .rows) (w .inside) (w .steps .wide) cell ep z)
 
   pub first-fits : ((j : ℕ) → getD val j 0 < 2 ^ 64) → (j sum : ℕ) → sum ≡ pick (eqb y 0) 1 (getD val j 0) → sum < 2 ^ 64
   first-fits fits j sum e = go (eqb y 0) e
@@ -379,12 +379,12 @@ module _ {p : plans.Plan} {sa sc off : List ℕ} {y : ℕ} {val : List ℕ} {cel
             a .is,
             eb ∙ below-is i (a .rows) (a .inside) (a .steps .deep) cell (a .at) l,
             ec ∙ by-third (eqb (p .k) 3),
-            corner-next (p .k) (p .f) sa sc (a .ready .slopes) (a .steps .slope) _ (a .steps .corner) (y + i) y,
+            plain-next (p .k) (p .f) sa sc (a .ready .slopes) (a .steps .slope) _ (a .steps .plain) (y + i) y,
           ))
 
       pub along-over : 2 ^ 64 ≤ sum + b + c → 2 ^ 64 ≤ W (p .k) (p .f) sa sc (p .ex) (p .ey)
       along-over h =
-          omega (arith, next-is, corner-most (p .k) (p .f) sa sc (a .ready .slopes) (a .steps .slope) _ (a .steps .corner) (y + (i + 1)) y (p .ey) (a .inside) (a .steps .wide) (omega arith))
+          omega (arith, next-is, plain-most (p .k) (p .f) sa sc (a .ready .slopes) (a .steps .slope) _ (a .steps .plain) (y + (i + 1)) y (p .ey) (a .inside) (a .steps .wide) (omega arith))
 
       pub along-next : (q s : ℕ) → q ≡ cell + strideFor p → s ≡ sum + b + c → Along p sa sc off y (set val q s) q s (i + 1)
       along-next q s eq es =
@@ -403,9 +403,9 @@ module _ {p : plans.Plan} {sa sc off : List ℕ} {y : ℕ} {val : List ℕ} {cel
 -- ---- the loop over the rows
 
 module _ {p : plans.Plan} {sa sc : List ℕ} {val : List ℕ} where
-  pub risen-of : {off : List ℕ} {y : ℕ} → PreparedFor p sa sc off (length val) → CorneredFor p sa sc → RowsFor p sa sc val y 0 → y ≡ p .ey + 1 → Risen p sa sc val true
+  pub risen-of : {off : List ℕ} {y : ℕ} → PreparedFor p sa sc off (length val) → PlainStepsFor p sa sc → RowsFor p sa sc val y 0 → y ≡ p .ey + 1 → Risen p sa sc val true
   risen-of r c rs e = record {
-    got = λ q. record { table = rows-got (r .slopes) (c .slope) _ (c .corner) (c .wide) (rw e at rs); start = omega arith; end = omega arith };
+    got = λ q. record { table = rows-got (r .slopes) (c .slope) _ (c .plain) (c .wide) (rw e at rs); start = omega arith; end = omega arith };
     over = λ q. absurd (subst T q tt);
   }
 

@@ -1,3 +1,3 @@
-pub mod Corners
+pub mod Plains
 pub mod Along
-pub mod Cornering
+pub mod PlainRows

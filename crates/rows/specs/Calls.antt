@@ -1,12 +1,18 @@
--- The families that this crate answers.
+-- What is known of a block.
 --
---   forRows b a        the answer a to block b, or refusal 11 where it isn't of family 1 or 3: other crates answer those
-use mathlib.Core.Bool.{not}
+--   KnownIs b room r     what each case of Known says of the block b, where there is room or not
+use mathlib.Core.Path.{_≡_}
+use mathlib.Core.Bool.{Bool, true, false}
 use mathlib.Core.List.{List}
 use Prim.Native.Nat.{ℕ}
-use Rattle.rules.specs.Blocks.{familyOf, corner}
-use Rattle.rules.specs.Refusals.{Answer}
-use Rattle.tables.specs.Calls.{except}
+use Rattle.rules.specs.Blocks.{familyOf, plain}
+use Rattle.lines.specs.Known.{Refusing, Ending}
+use Rattle.rows.specs.declared.known.Known.{Known}
+use Rattle.rows.specs.declared.known.Known.the-variants.{NotMine, NoRoom, Refused, End}
+use Rattle.rows.specs.Plains.{plainJob, Within}
 
-abbrev pub forRows : {A : Type 0} → List ℕ → Answer A → Answer A
-forRows b a = except (not (corner (familyOf b))) a
+abbrev pub KnownIs : List ℕ → Bool → Known → Type 0
+KnownIs b room NotMine = plain (familyOf b) ≡ false
+KnownIs b room NoRoom = (plain (familyOf b) ≡ true) × (room ≡ false)
+KnownIs b room (Refused r) = Refusing (plain (familyOf b)) room b r
+KnownIs b room (End c) = Within c × Ending (plain (familyOf b)) room b (plainJob c)

@@ -1,3 +1,3 @@
 pub mod Calls
-pub mod Corners
+pub mod Plains
 pub mod Rows

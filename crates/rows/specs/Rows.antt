@@ -2,8 +2,8 @@
 -- D(n-1,m) + D(n-1,m-1)", so along a row each cell is the one before it and what the row below brings, and a sum is kept in hand.
 --
 --   Rises a b       one of the two is 1, the other 0
---   Corner three    the steps are (1,1) and (1,0), in either order, and (2,1) where three is true
---   Cornered        such steps, so that hi is 6 and m is 1, for an end that they can reach; CorneredFor: by a plan
+--   Plain three    the steps are (1,1) and (1,0), in either order, and (2,1) where three is true
+--   PlainSteps        such steps, so that hi is 6 and m is 1, for an end that they can reach; PlainStepsFor: by a plan
 --   Done y i u v    of row v the cell in column u is filled, when the rows below y are, and i cells of row y
 --   Rows .. y i     the cells that are filled are right, and every other one is 0; row v runs from column v to v + n
 --   RowsFor         the same by a plan
@@ -27,7 +27,7 @@ use Rattle.tables.specs.Filling.{Got}
 abbrev pub Rises : ℕ → ℕ → Type 0
 Rises a b = ((a ≡ 1) × (b ≡ 0)) ⊎ ((a ≡ 0) × (b ≡ 1))
 
-pub record Corner (three : Bool) (k f : ℕ) (sa sc : List ℕ) : Type 0 where
+pub record Plain (three : Bool) (k f : ℕ) (sa sc : List ℕ) : Type 0 where
   pub level : f ≡ 0
   pub many : k ≡ pick three 3 2
   pub one : getD sa 0 0 ≡ 1
@@ -35,15 +35,15 @@ pub record Corner (three : Bool) (k f : ℕ) (sa sc : List ℕ) : Type 0 where
   pub rise : Rises (getD sc 0 0) (getD sc 1 0)
   pub third : three ≡ true → (getD sa 2 0 ≡ 2) × (getD sc 2 0 ≡ 1)
 
-pub record Cornered (k f : ℕ) (sa sc : List ℕ) (hi m ex ey : ℕ) : Type 0 where
-  pub corner : Corner (eqb k 3) k f sa sc
+pub record PlainSteps (k f : ℕ) (sa sc : List ℕ) (hi m ex ey : ℕ) : Type 0 where
+  pub plain : Plain (eqb k 3) k f sa sc
   pub slope : hi ≡ 6
   pub deep : m ≡ 1
   pub wide : ey ≤ ex
 
--- the steps sa, sc are a corner's, and can reach the plan's end
-abbrev pub CorneredFor : Plan → List ℕ → List ℕ → Type 0
-CorneredFor p sa sc = Cornered (p .k) (p .f) sa sc (p .hi) (p .m) (p .ex) (p .ey)
+-- the steps sa, sc are a plain's, and can reach the plan's end
+abbrev pub PlainStepsFor : Plan → List ℕ → List ℕ → Type 0
+PlainStepsFor p sa sc = PlainSteps (p .k) (p .f) sa sc (p .hi) (p .m) (p .ex) (p .ey)
 
 abbrev pub Done : ℕ → ℕ → ℕ → ℕ → Type 0
 Done y i u v = (v < y) ⊎ ((v ≡ y) × (u < y + i))
@@ -57,7 +57,7 @@ RowsFor p sa sc val y i = Rows (p .k) (p .f) sa sc (p .m) (p .ey) (p .ex - p .ey
 
 pub record Rowing (p : Plan) (sa sc off val : List ℕ) (y : ℕ) : Type 0 where
   pub ready : PreparedFor p sa sc off (length val)
-  pub steps : CorneredFor p sa sc
+  pub steps : PlainStepsFor p sa sc
   pub rows : RowsFor p sa sc val y 0
   pub inside : y ≤ p .ey
 

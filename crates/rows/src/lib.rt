@@ -1,77 +1,85 @@
 // Families 1 and 3: count, number and build. The count keeps one row of counts; number and build fill the table, row by row.
 ghost use mathlib.Core.Path.{_≡_};
-ghost use Prim.Native.Nat.{_≤_};
-ghost use Rattle.rules.specs.Answers.{countAnswer, numberAnswer};
+ghost use lib.ListN.{length};
+ghost use Rattle.rules.specs.Blocks.{familyOf, plain};
+ghost use Rattle.rules.specs.Answers.{countAnswer};
 ghost use Rattle.rules.specs.Questions.{edgesAnswer};
-ghost use Rattle.job.specs.Replies.{reply, countSays, numberSays};
-ghost use Rattle.lines.specs.Lines.{lines, LinedAs};
-ghost use Rattle.rows.specs.Calls.{forRows};
-ghost use Rattle.rows.specs.Corners.{cornerOf, cornerCount};
+ghost use Rattle.job.specs.Replies.{reply, countSays};
+ghost use Rattle.lines.specs.Lines.{cutFrom, lines};
+ghost use Rattle.lines.specs.Ranks.{ranks, ranksAnswer};
+ghost use Rattle.lines.specs.Mine.{CountsFor, RanksFor, LinesFor};
+ghost use Rattle.rows.specs.Plains.{Within, plainCount};
 
-mod corner;
+mod known;
 mod numbering;
+mod plain;
 mod spelling;
 mod table;
 
-use corner::corner_of;
 use job::Built;
 use job::Counted;
-use job::Job;
-use job::Numbered;
+use known::Known;
+use known::known_of;
+use lines::Building;
+use lines::Counting;
+use lines::Numbering;
+use lines::Ranked;
+use lines::Wrote;
+use plain::Plain;
+
+fn count_of(c: Plain) -> Counted
+    requires { ⌜ Within c ⌝ }
+    ensures { λ r. ⌜ countSays r ≡ reply (plainCount c) ⌝ }
+{
+    plains::count(c.n as u8, c.m as u8, c.diagonal)
+}
 
 // The count of a job of family 1 or 3 (document 01, "Counts").
-pub fn count(block: &[u8]) -> Counted
-    ensures { λ r. ⌜ countSays r ≡ reply (forRows (now (block .entry)) (countAnswer (now (block .entry)))) ⌝ }
+pub fn count(block: &[u8]) -> Counting
+    ensures { λ r. ⌜ CountsFor (plain (familyOf (now (block .entry)))) (countAnswer (now (block .entry))) r ⌝ }
 {
-    if !job::is_corner(block) {
-        return Counted::Refused(11);
+    match known_of(block, true) {
+        Known::NotMine => Counting::NotMine,
+        Known::NoRoom => Counting::NotMine,
+        Known::Refused(r) => Counting::Mine(Counted::Refused(r)),
+        Known::End(c) => Counting::Mine(count_of(c)),
     }
-    let made = Job::of(block);
-    let refusal = made.refusal;
-    if refusal != 0 {
-        return Counted::Refused(refusal);
-    }
-    count_of(made.job)
 }
 
-fn count_of(job: Job) -> Counted
-    requires { ⌜ 128 ≤ job .m ⌝ }
-    ensures { λ r. ⌜ countSays r ≡ reply (cornerCount (cornerOf job)) ⌝ }
+// The numbers of the edges of one lent slice, by where the first begins and each ends (000, algorithms 1 and 5).
+pub fn number_all(
+    block: &[u8],
+    bytes: &[u8],
+    from: usize,
+    ends: &[usize],
+    numbers: &mut [u64],
+) -> Numbering
+    ensures { λ r. ⌜ RanksFor (plain (familyOf (now (block .entry)))) (ranks (ranksAnswer (now (block .entry)) (cutFrom from (now (ends .entry)) (now (bytes .entry)))) (length (now (ends .entry))) (now (numbers .entry))) r (now (numbers .entry)) (now (numbers .exit)) ⌝ }
 {
-    corners::count(job.n, job.m - Job::LEVEL, job.family == 3)
-}
-
-// The number of an edge of a job of family 1 or 3 (000, algorithms 1 and 5).
-pub fn number(block: &[u8], edge: &[u8]) -> Numbered
-    ensures { λ r. ⌜ numberSays r ≡ reply (forRows (now (block .entry)) (numberAnswer (now (block .entry)) (now (edge .entry)))) ⌝ }
-{
-    if !job::is_corner(block) {
-        return Numbered::Refused(11);
+    match known_of(block, ends.len() <= numbers.len()) {
+        Known::NotMine => Numbering::NotMine,
+        Known::NoRoom => Numbering::Mine(Ranked::NoRoom),
+        Known::Refused(r) => Numbering::Mine(Ranked::Refused(r)),
+        Known::End(c) => Numbering::Mine(numbering::number_edges(c, bytes, from, ends, numbers)),
     }
-    let made = Job::of(block);
-    let refusal = made.refusal;
-    if refusal != 0 {
-        return Numbered::Refused(refusal);
-    }
-    let c = corner_of(made.job);
-    numbering::number_of(c, edge)
 }
 
 // The edges of a list of numbers, one after the other, and where each ends (000, algorithms 2 and 6).
-pub fn build_all(block: &[u8], numbers: &[u64], steps: &mut [u8], ends: &mut [usize]) -> Built
-    ensures { λ r. ⌜ LinedAs (lines (forRows (now (block .entry)) (edgesAnswer (now (block .entry)) (now (numbers .entry)))) (now (numbers .entry)) (now (steps .entry)) (now (ends .entry))) r (now (steps .exit)) (now (ends .exit)) ⌝ }
+pub fn build_all(block: &[u8], numbers: &[u64], steps: &mut [u8], ends: &mut [usize]) -> Building
+    ensures { λ r. ⌜ LinesFor (plain (familyOf (now (block .entry)))) (lines (edgesAnswer (now (block .entry)) (now (numbers .entry))) (now (numbers .entry)) (now (steps .entry)) (now (ends .entry))) r (now (steps .entry)) (now (ends .entry)) (now (steps .exit)) (now (ends .exit)) ⌝ }
 {
-    if !lines::has_room(numbers.len(), steps.len(), ends.len()) {
-        return Built::Refused(7);
+    match known_of(
+        block,
+        lines::has_room(numbers.len(), steps.len(), ends.len()),
+    ) {
+        Known::NotMine => Building::NotMine,
+        Known::NoRoom => Building::Mine(Wrote::NoRoom),
+        Known::Refused(r) => Building::Mine(Wrote::Answer(Built::Refused(r))),
+        Known::End(c) => Building::Mine(Wrote::Answer(spelling::spell_edges(
+            c,
+            numbers,
+            steps,
+            ends,
+        ))),
     }
-    if !job::is_corner(block) {
-        return Built::Refused(11);
-    }
-    let made = Job::of(block);
-    let refusal = made.refusal;
-    if refusal != 0 {
-        return Built::Refused(refusal);
-    }
-    let c = corner_of(made.job);
-    spelling::spell_edges(c, numbers, steps, ends)
 }

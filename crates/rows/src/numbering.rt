@@ -1,24 +1,26 @@
-// The number of an edge of families 1 and 3: the table is filled once, so that refusal 4 goes before 5, and then the edge is read from its
-// end. The steps are written into the loop, which takes less time than to lay them in lists.
+// The numbers of edges of families 1 and 3: the table is filled once, and then each edge is read once, from its end. The steps are written into the loop, which takes less time than to lay them in lists.
 ghost use mathlib.Core.Path.{_≡_};
-ghost use Rattle.job.specs.Replies.{reply, numberSays};
-ghost use Rattle.tables.specs.Calls.{NumbersOf};
-ghost use Rattle.rows.specs.Corners.{cornerJob, cornerNumber, isAcross, CornerBegun, CornerFull, CornerReady, Within};
-use crate::corner::Corner;
-use crate::corner::HIGHEST;
-use crate::corner::cells_of;
-use crate::corner::east_of;
-use crate::corner::end_of;
-use crate::corner::lesser;
-use crate::corner::north_of;
-use crate::corner::rise_of;
+ghost use Prim.Native.Nat.{_≤_};
+ghost use lib.ListN.{length};
+ghost use Rattle.lines.specs.Lines.{cutFrom};
+ghost use Rattle.lines.specs.Known.{NumbersOf};
+ghost use Rattle.rows.specs.Plains.{plainJob, isAcross, PlainRank, PlainRanks, PlainNumbers, PlainBegun, PlainFull, PlainReady, Within};
+use crate::plain::HIGHEST;
+use crate::plain::Plain;
+use crate::plain::cells_of;
+use crate::plain::east_of;
+use crate::plain::end_of;
+use crate::plain::lesser;
+use crate::plain::north_of;
+use crate::plain::rise_of;
 use crate::table::fill_rows;
-use job::Numbered;
 use job::Step;
+use lines::Rank;
+use lines::Ranked;
 use tables::Answer;
 
 // Whether the byte b is a D that can be the last step to (x, y).
-fn is_across(c: Corner, b: u8, x: usize, y: usize) -> bool
+fn is_across(c: Plain, b: u8, x: usize, y: usize) -> bool
     ensures { λ r. ⌜ r ≡ isAcross c b x y ⌝ }
 {
     if b != Step::DIAGONAL {
@@ -33,11 +35,11 @@ fn is_across(c: Corner, b: u8, x: usize, y: usize) -> bool
     c.diagonal
 }
 
-// The number of the edge e (000, algorithms 1 and 5), or refusal 5 where e is no edge. Until that is known the sum fits all the same: with
+// The number of the edge e (000, algorithms 1 and 5), or that e is none. Until that is known the sum fits all the same: with
 // the walks to (x, y) it is no more than the count.
-fn read(val: &[u64], c: Corner, e: &[u8]) -> Numbered
-    requires { ⌜ CornerFull c (now val) ⌝ }
-    ensures { λ r. ⌜ numberSays r ≡ reply (cornerNumber c (now (e .entry))) ⌝ }
+fn read(val: &[u64], c: Plain, e: &[u8]) -> Rank
+    requires { ⌜ PlainFull c (now val) ⌝ }
+    ensures { λ r. ⌜ PlainRank c (now (e .entry)) r ⌝ }
 {
     let up_n = rise_of(c);
     let up_e = 1 - up_n;
@@ -52,11 +54,11 @@ fn read(val: &[u64], c: Corner, e: &[u8]) -> Numbered
         i -= 1;
         let b = e[i];
         if x < 1 {
-            return Numbered::Refused(5);
+            return Rank::NoEdge;
         }
         if b == Step::NORTH {
             if y < up_n {
-                return Numbered::Refused(5);
+                return Rank::NoEdge;
             }
             x -= 1;
             y -= up_n;
@@ -65,7 +67,7 @@ fn read(val: &[u64], c: Corner, e: &[u8]) -> Numbered
         }
         if b == Step::EAST {
             if y < up_e {
-                return Numbered::Refused(5);
+                return Rank::NoEdge;
             }
             acc += val[at - north];
             x -= 1;
@@ -74,7 +76,7 @@ fn read(val: &[u64], c: Corner, e: &[u8]) -> Numbered
             continue;
         }
         if !is_across(c, b, x, y) {
-            return Numbered::Refused(5);
+            return Rank::NoEdge;
         }
         acc += val[at - north] + val[at - east];
         x -= 2;
@@ -82,71 +84,104 @@ fn read(val: &[u64], c: Corner, e: &[u8]) -> Numbered
         at -= north + east;
     }
     if 0 < x + y {
-        return Numbered::Refused(5);
+        return Rank::NoEdge;
     }
-    Numbered::Number(acc)
+    Rank::At(acc)
 }
 
-// The number of the edge over a table that is still blank.
-fn number_in(val: &mut [u64], c: Corner, edge: &[u8]) -> Numbered
-    requires { ⌜ CornerBegun c (now val) ⌝ }
-    ensures { λ r. ⌜ numberSays r ≡ reply (cornerNumber c (now (edge .entry))) ⌝ }
+// The numbers of the edges, up to the first string that is none; the answer is how many.
+fn number_each(
+    val: &[u64],
+    c: Plain,
+    bytes: &[u8],
+    from: usize,
+    ends: &[usize],
+    numbers: &mut [u64],
+) -> usize
+    requires { ⌜ PlainFull c (now val) × (length (now ends) ≤ length (now numbers)) ⌝ }
+    ensures { λ n. ⌜ PlainRanks c (cutFrom from (now (ends .entry)) (now (bytes .entry))) (now (numbers .entry)) (now (numbers .exit)) n ⌝ }
+{
+    let mut at = from;
+    let mut i: usize = 0;
+    while i < ends.len() {
+        let end = ends[i];
+        let Rank::At(r) = read(val, c, lines::part(bytes, at, end)) else {
+            return i;
+        };
+        numbers[i] = r;
+        at = end;
+        i += 1;
+    }
+    i
+}
+
+// The numbers of the edges over a table that is still blank, or refusal 4.
+fn number_in(
+    val: &mut [u64],
+    c: Plain,
+    bytes: &[u8],
+    from: usize,
+    ends: &[usize],
+    numbers: &mut [u64],
+) -> Ranked
+    requires { ⌜ PlainBegun c (now val) × (length (now ends) ≤ length (now numbers)) ⌝ }
+    ensures { λ r. ⌜ PlainNumbers c (cutFrom from (now (ends .entry)) (now (bytes .entry))) (now (numbers .entry)) (now (numbers .exit)) r ⌝ }
 {
     if let Answer::Over = fill_rows(val, c) {
-        return Numbered::Refused(4);
+        return Ranked::Refused(4);
     }
-    read(val, c, edge)
+    Ranked::Upto(number_each(val, c, bytes, from, ends, numbers))
 }
 
-fn number_128(c: Corner, edge: &[u8]) -> Numbered
-    requires { ⌜ CornerReady c 128 ⌝ }
-    ensures { λ r. ⌜ numberSays r ≡ reply (cornerNumber c (now (edge .entry))) ⌝ }
+// The numbers of the edges, in a table of the smallest of three sizes that has room: clearing the largest takes as long as filling a small one.
+fn number_small(
+    c: Plain,
+    cells: usize,
+    bytes: &[u8],
+    from: usize,
+    ends: &[usize],
+    numbers: &mut [u64],
+) -> Ranked
+    requires { ⌜ PlainReady c cells × (cells ≤ 1280) × (length (now ends) ≤ length (now numbers)) ⌝ }
+    ensures { λ r. ⌜ PlainNumbers c (cutFrom from (now (ends .entry)) (now (bytes .entry))) (now (numbers .entry)) (now (numbers .exit)) r ⌝ }
 {
-    let mut val = [0u64; 128];
-    number_in(&mut val, c, edge)
-}
-
-fn number_384(c: Corner, edge: &[u8]) -> Numbered
-    requires { ⌜ CornerReady c 384 ⌝ }
-    ensures { λ r. ⌜ numberSays r ≡ reply (cornerNumber c (now (edge .entry))) ⌝ }
-{
-    let mut val = [0u64; 384];
-    number_in(&mut val, c, edge)
-}
-
-fn number_1280(c: Corner, edge: &[u8]) -> Numbered
-    requires { ⌜ CornerReady c 1280 ⌝ }
-    ensures { λ r. ⌜ numberSays r ≡ reply (cornerNumber c (now (edge .entry))) ⌝ }
-{
+    if cells <= 128 {
+        let mut val = [0u64; 128];
+        return number_in(&mut val, c, bytes, from, ends, numbers);
+    }
+    if cells <= 384 {
+        let mut val = [0u64; 384];
+        return number_in(&mut val, c, bytes, from, ends, numbers);
+    }
     let mut val = [0u64; 1280];
-    number_in(&mut val, c, edge)
+    number_in(&mut val, c, bytes, from, ends, numbers)
 }
 
-fn number_3712(c: Corner, edge: &[u8]) -> Numbered
-    requires { ⌜ CornerReady c 3712 ⌝ }
-    ensures { λ r. ⌜ numberSays r ≡ reply (cornerNumber c (now (edge .entry))) ⌝ }
+fn number_large(c: Plain, bytes: &[u8], from: usize, ends: &[usize], numbers: &mut [u64]) -> Ranked
+    requires { ⌜ PlainReady c 3712 × (length (now ends) ≤ length (now numbers)) ⌝ }
+    ensures { λ r. ⌜ PlainNumbers c (cutFrom from (now (ends .entry)) (now (bytes .entry))) (now (numbers .entry)) (now (numbers .exit)) r ⌝ }
 {
     let mut val = [0u64; 3712];
-    number_in(&mut val, c, edge)
+    number_in(&mut val, c, bytes, from, ends, numbers)
 }
 
-// The number of the edge, in a table of the smallest of four sizes that has room.
-pub(crate) fn number_of(c: Corner, edge: &[u8]) -> Numbered
-    requires { ⌜ Within c ⌝ }
-    ensures { λ r. ⌜ NumbersOf (cornerJob c) (now (edge .entry)) r ⌝ }
+// The numbers of the edges of a job, up to the first string that is none, or refusal 4.
+pub(crate) fn number_edges(
+    c: Plain,
+    bytes: &[u8],
+    from: usize,
+    ends: &[usize],
+    numbers: &mut [u64],
+) -> Ranked
+    requires { ⌜ Within c × (length (now ends) ≤ length (now numbers)) ⌝ }
+    ensures { λ r. ⌜ NumbersOf (plainJob c) (cutFrom from (now (ends .entry)) (now (bytes .entry))) (now (numbers .entry)) (now (numbers .exit)) r ⌝ }
 {
     if HIGHEST < lesser(c) {
-        return Numbered::Refused(4);
+        return Ranked::Refused(4);
     }
-    let room = cells_of(c);
-    if room <= 128 {
-        return number_128(c, edge);
+    let cells = cells_of(c);
+    if cells <= 1280 {
+        return number_small(c, cells, bytes, from, ends, numbers);
     }
-    if room <= 384 {
-        return number_384(c, edge);
-    }
-    if room <= 1280 {
-        return number_1280(c, edge);
-    }
-    number_3712(c, edge)
+    number_large(c, bytes, from, ends, numbers)
 }

@@ -5,26 +5,26 @@ ghost use mathlib.Core.Bool.{true};
 ghost use Prim.Native.Nat.{_≤_, _<_};
 ghost use lib.ListN.{length, drop};
 ghost use Rattle.rules.specs.Questions.{allBelow};
-ghost use Rattle.tables.specs.Calls.{BuildsOf};
+ghost use Rattle.lines.specs.Known.{BuildsOf};
 ghost use Rattle.tables.specs.Plans.{RoomFor};
 ghost use Rattle.tables.specs.Spelling.{Front};
-ghost use Rattle.rows.specs.Corners.{cornerJob, cornerWalks, cornerEdge, CornerBegun, CornerFull, CornerReady, CornerLists, CornerBuilds, Within};
-use crate::corner::Corner;
-use crate::corner::HIGHEST;
-use crate::corner::cells_of;
-use crate::corner::east_of;
-use crate::corner::end_of;
-use crate::corner::lesser;
-use crate::corner::north_of;
+ghost use Rattle.rows.specs.Plains.{plainJob, plainWalks, plainEdge, PlainBegun, PlainFull, PlainReady, PlainLists, PlainBuilds, Within};
+use crate::plain::HIGHEST;
+use crate::plain::Plain;
+use crate::plain::cells_of;
+use crate::plain::east_of;
+use crate::plain::end_of;
+use crate::plain::lesser;
+use crate::plain::north_of;
 use crate::table::fill_rows;
 use job::Built;
 use job::Step;
 use tables::Answer;
 
 // The edge of number r, at the end of buf (000, algorithms 2 and 6); the answer is where it starts.
-fn spell(val: &[u64], c: Corner, r: u64, buf: &mut [u8]) -> usize
-    requires { ⌜ CornerFull c (now val) × (r < cornerWalks c) × (length (now buf) ≡ 128) ⌝ }
-    ensures { λ s. ⌜ (s ≤ 128) × (drop s (now (buf .exit)) ≡ cornerEdge c r) ⌝ }
+fn spell(val: &[u64], c: Plain, r: u64, buf: &mut [u8]) -> usize
+    requires { ⌜ PlainFull c (now val) × (r < plainWalks c) × (length (now buf) ≡ 128) ⌝ }
+    ensures { λ s. ⌜ (s ≤ 128) × (drop s (now (buf .exit)) ≡ plainEdge c r) ⌝ }
 {
     let north = north_of(c);
     let east = east_of(c);
@@ -58,9 +58,9 @@ fn spell(val: &[u64], c: Corner, r: u64, buf: &mut [u8]) -> usize
 }
 
 // The edge of number r, to the front of steps; the answer is its length.
-fn spell_front(val: &[u64], c: Corner, r: u64, steps: &mut [u8]) -> usize
-    requires { ⌜ CornerFull c (now val) × (r < cornerWalks c) × (128 ≤ length (now steps)) ⌝ }
-    ensures { λ n. ⌜ Front (cornerEdge c r) (now (steps .entry)) (now (steps .exit)) n ⌝ }
+fn spell_front(val: &[u64], c: Plain, r: u64, steps: &mut [u8]) -> usize
+    requires { ⌜ PlainFull c (now val) × (r < plainWalks c) × (128 ≤ length (now steps)) ⌝ }
+    ensures { λ n. ⌜ Front (plainEdge c r) (now (steps .entry)) (now (steps .exit)) n ⌝ }
 {
     let mut buf = [0u8; 128];
     let at = spell(val, c, r, &mut buf);
@@ -69,9 +69,9 @@ fn spell_front(val: &[u64], c: Corner, r: u64, steps: &mut [u8]) -> usize
 }
 
 // The edges, one after the other, and where each ends; the answer is where the last one does.
-fn spell_all(val: &[u64], c: Corner, numbers: &[u64], steps: &mut [u8], ends: &mut [usize]) -> usize
-    requires { ⌜ CornerFull c (now val) × (allBelow (cornerWalks c) (now numbers) ≡ true) × RoomFor (now numbers) (now steps) (now ends) ⌝ }
-    ensures { λ at. ⌜ CornerLists c (now (numbers .entry)) (now (steps .entry)) (now (ends .entry)) (now (steps .exit)) (now (ends .exit)) at ⌝ }
+fn spell_all(val: &[u64], c: Plain, numbers: &[u64], steps: &mut [u8], ends: &mut [usize]) -> usize
+    requires { ⌜ PlainFull c (now val) × (allBelow (plainWalks c) (now numbers) ≡ true) × RoomFor (now numbers) (now steps) (now ends) ⌝ }
+    ensures { λ at. ⌜ PlainLists c (now (numbers .entry)) (now (steps .entry)) (now (ends .entry)) (now (steps .exit)) (now (ends .exit)) at ⌝ }
 {
     let mut at: usize = 0;
     let mut i: usize = 0;
@@ -87,13 +87,13 @@ fn spell_all(val: &[u64], c: Corner, numbers: &[u64], steps: &mut [u8], ends: &m
 // The edges over a table that is still blank, or refusal 4 or 6.
 fn spell_in(
     val: &mut [u64],
-    c: Corner,
+    c: Plain,
     numbers: &[u64],
     steps: &mut [u8],
     ends: &mut [usize],
 ) -> Built
-    requires { ⌜ CornerBegun c (now val) × RoomFor (now numbers) (now steps) (now ends) ⌝ }
-    ensures { λ r. ⌜ CornerBuilds c (now (numbers .entry)) (now (steps .entry)) (now (ends .entry)) (now (steps .exit)) (now (ends .exit)) r ⌝ }
+    requires { ⌜ PlainBegun c (now val) × RoomFor (now numbers) (now steps) (now ends) ⌝ }
+    ensures { λ r. ⌜ PlainBuilds c (now (numbers .entry)) (now (steps .entry)) (now (ends .entry)) (now (steps .exit)) (now (ends .exit)) r ⌝ }
 {
     let Answer::Count(w) = fill_rows(val, c) else {
         return Built::Refused(4);
@@ -104,55 +104,48 @@ fn spell_in(
     Built::Length(spell_all(val, c, numbers, steps, ends))
 }
 
-fn spell_128(c: Corner, numbers: &[u64], steps: &mut [u8], ends: &mut [usize]) -> Built
-    requires { ⌜ CornerReady c 128 × RoomFor (now numbers) (now steps) (now ends) ⌝ }
-    ensures { λ r. ⌜ CornerBuilds c (now (numbers .entry)) (now (steps .entry)) (now (ends .entry)) (now (steps .exit)) (now (ends .exit)) r ⌝ }
+// The edges, over a table of the smallest of three sizes that has room.
+fn spell_small(
+    c: Plain,
+    cells: usize,
+    numbers: &[u64],
+    steps: &mut [u8],
+    ends: &mut [usize],
+) -> Built
+    requires { ⌜ PlainReady c cells × (cells ≤ 1280) × RoomFor (now numbers) (now steps) (now ends) ⌝ }
+    ensures { λ r. ⌜ PlainBuilds c (now (numbers .entry)) (now (steps .entry)) (now (ends .entry)) (now (steps .exit)) (now (ends .exit)) r ⌝ }
 {
-    let mut val = [0u64; 128];
-    spell_in(&mut val, c, numbers, steps, ends)
-}
-
-fn spell_384(c: Corner, numbers: &[u64], steps: &mut [u8], ends: &mut [usize]) -> Built
-    requires { ⌜ CornerReady c 384 × RoomFor (now numbers) (now steps) (now ends) ⌝ }
-    ensures { λ r. ⌜ CornerBuilds c (now (numbers .entry)) (now (steps .entry)) (now (ends .entry)) (now (steps .exit)) (now (ends .exit)) r ⌝ }
-{
-    let mut val = [0u64; 384];
-    spell_in(&mut val, c, numbers, steps, ends)
-}
-
-fn spell_1280(c: Corner, numbers: &[u64], steps: &mut [u8], ends: &mut [usize]) -> Built
-    requires { ⌜ CornerReady c 1280 × RoomFor (now numbers) (now steps) (now ends) ⌝ }
-    ensures { λ r. ⌜ CornerBuilds c (now (numbers .entry)) (now (steps .entry)) (now (ends .entry)) (now (steps .exit)) (now (ends .exit)) r ⌝ }
-{
+    if cells <= 128 {
+        let mut val = [0u64; 128];
+        return spell_in(&mut val, c, numbers, steps, ends);
+    }
+    if cells <= 384 {
+        let mut val = [0u64; 384];
+        return spell_in(&mut val, c, numbers, steps, ends);
+    }
     let mut val = [0u64; 1280];
     spell_in(&mut val, c, numbers, steps, ends)
 }
 
-fn spell_3712(c: Corner, numbers: &[u64], steps: &mut [u8], ends: &mut [usize]) -> Built
-    requires { ⌜ CornerReady c 3712 × RoomFor (now numbers) (now steps) (now ends) ⌝ }
-    ensures { λ r. ⌜ CornerBuilds c (now (numbers .entry)) (now (steps .entry)) (now (ends .entry)) (now (steps .exit)) (now (ends .exit)) r ⌝ }
+fn spell_large(c: Plain, numbers: &[u64], steps: &mut [u8], ends: &mut [usize]) -> Built
+    requires { ⌜ PlainReady c 3712 × RoomFor (now numbers) (now steps) (now ends) ⌝ }
+    ensures { λ r. ⌜ PlainBuilds c (now (numbers .entry)) (now (steps .entry)) (now (ends .entry)) (now (steps .exit)) (now (ends .exit)) r ⌝ }
 {
     let mut val = [0u64; 3712];
     spell_in(&mut val, c, numbers, steps, ends)
 }
 
-// The edges, over a table of the smallest of four sizes that has room.
-pub(crate) fn spell_edges(c: Corner, numbers: &[u64], steps: &mut [u8], ends: &mut [usize]) -> Built
+// The edges of the numbers of a job, or refusal 4 or 6.
+pub(crate) fn spell_edges(c: Plain, numbers: &[u64], steps: &mut [u8], ends: &mut [usize]) -> Built
     requires { ⌜ Within c × RoomFor (now numbers) (now steps) (now ends) ⌝ }
-    ensures { λ r. ⌜ BuildsOf (cornerJob c) (now (numbers .entry)) (now (steps .entry)) (now (ends .entry)) (now (steps .exit)) (now (ends .exit)) r ⌝ }
+    ensures { λ r. ⌜ BuildsOf (plainJob c) (now (numbers .entry)) (now (steps .entry)) (now (ends .entry)) (now (steps .exit)) (now (ends .exit)) r ⌝ }
 {
     if HIGHEST < lesser(c) {
         return Built::Refused(4);
     }
-    let room = cells_of(c);
-    if room <= 128 {
-        return spell_128(c, numbers, steps, ends);
+    let cells = cells_of(c);
+    if cells <= 1280 {
+        return spell_small(c, cells, numbers, steps, ends);
     }
-    if room <= 384 {
-        return spell_384(c, numbers, steps, ends);
-    }
-    if room <= 1280 {
-        return spell_1280(c, numbers, steps, ends);
-    }
-    spell_3712(c, numbers, steps, ends)
+    spell_large(c, numbers, steps, ends)
 }

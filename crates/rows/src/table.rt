@@ -7,11 +7,11 @@ ghost use lib.ListN.{length, getD};
 ghost use Rattle.howmany.specs.Choose.{pick};
 ghost use Rattle.tables.specs.Filling.{Filled};
 ghost use Rattle.rows.specs.Rows.{Rowing, Rowed, Risen};
-ghost use Rattle.rows.specs.Corners.{cornerPlan, cornerRight, cornerUp, cornerBack, CornerBegun};
-use crate::corner::Corner;
-use crate::corner::end_of;
-use crate::corner::lesser;
-use crate::corner::stride_of;
+ghost use Rattle.rows.specs.Plains.{plainPlan, plainRight, plainUp, plainBack, PlainBegun};
+use crate::plain::Plain;
+use crate::plain::end_of;
+use crate::plain::lesser;
+use crate::plain::stride_of;
 use std::num::wrapping_add_u64;
 use tables::Answer;
 
@@ -35,9 +35,9 @@ fn across(val: &[u64], three: bool, stride: usize, at: usize) -> u64
 }
 
 // Row y, from column y on: whether all its counts fit 64 bits. A sum that doesn't wraps, and is then below what was added.
-fn row(val: &mut [u64], c: Corner, y: usize) -> bool
-    requires { ⌜ Rowing (cornerPlan c) (cornerRight c) (cornerUp c) (cornerBack c) (now val) y ⌝ }
-    ensures { λ r. ⌜ Rowed (cornerPlan c) (cornerRight c) (cornerUp c) (now (val .exit)) y r ⌝ }
+fn row(val: &mut [u64], c: Plain, y: usize) -> bool
+    requires { ⌜ Rowing (plainPlan c) (plainRight c) (plainUp c) (plainBack c) (now val) y ⌝ }
+    ensures { λ r. ⌜ Rowed (plainPlan c) (plainRight c) (plainUp c) (now (val .exit)) y r ⌝ }
 {
     let stride = stride_of(c);
     let n = c.n + c.m - lesser(c);
@@ -64,9 +64,9 @@ fn row(val: &mut [u64], c: Corner, y: usize) -> bool
 }
 
 // All rows: whether the count at the end fits 64 bits.
-fn all_rows(val: &mut [u64], c: Corner) -> bool
-    requires { ⌜ CornerBegun c (now val) ⌝ }
-    ensures { λ r. ⌜ Risen (cornerPlan c) (cornerRight c) (cornerUp c) (now (val .exit)) r ⌝ }
+fn all_rows(val: &mut [u64], c: Plain) -> bool
+    requires { ⌜ PlainBegun c (now val) ⌝ }
+    ensures { λ r. ⌜ Risen (plainPlan c) (plainRight c) (plainUp c) (now (val .exit)) r ⌝ }
 {
     let ey = lesser(c);
     let mut y = 0;
@@ -80,9 +80,9 @@ fn all_rows(val: &mut [u64], c: Corner) -> bool
 }
 
 // The whole table; the answer is the count at the end.
-pub(crate) fn fill_rows(val: &mut [u64], c: Corner) -> Answer
-    requires { ⌜ CornerBegun c (now val) ⌝ }
-    ensures { λ r. ⌜ Filled (cornerPlan c) (cornerRight c) (cornerUp c) (now (val .exit)) r ⌝ }
+pub(crate) fn fill_rows(val: &mut [u64], c: Plain) -> Answer
+    requires { ⌜ PlainBegun c (now val) ⌝ }
+    ensures { λ r. ⌜ Filled (plainPlan c) (plainRight c) (plainUp c) (now (val .exit)) r ⌝ }
 {
     if !all_rows(val, c) {
         return Answer::Over;

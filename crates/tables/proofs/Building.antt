@@ -130,16 +130,16 @@ write-done buf t u s n e = sym (reverse-reverse (drop s buf)) ∙ ap reverse (sy
 
 -- ---- the loop of `spell`
 
-pub record Writing (corner : Bool) (p : plans.Plan) (sa sc off val : List ℕ) (r : ℕ) (buf₀ buf : List ℕ) (x y cell left s : ℕ) : Type 0 where
+pub record Writing (lettered : Bool) (p : plans.Plan) (sa sc off val : List ℕ) (r : ℕ) (buf₀ buf : List ℕ) (x y cell left s : ℕ) : Type 0 where
   pub full : Full p sa sc off val
   pub stand : Stand p sa sc x y cell
   pub less : left < W (p .k) (p .f) sa sc x y
   pub x-le : x ≤ s
   pub s-le : s ≤ 128
   pub room : length buf ≡ 128
-  pub so-far : reverse (drop s buf) ++ map (glyphOf corner) (unr (p .k) (p .f) sa sc x y left) ≡ map (glyphOf corner) (unr (p .k) (p .f) sa sc (p .ex) (p .ey) r)
+  pub so-far : reverse (drop s buf) ++ map (glyphOf lettered) (unr (p .k) (p .f) sa sc x y left) ≡ map (glyphOf lettered) (unr (p .k) (p .f) sa sc (p .ex) (p .ey) r)
 
-pub record Written (corner : Bool) (p : plans.Plan) (sa sc off val : List ℕ) (r : ℕ) (buf₀ buf : List ℕ) (x y cell s l rest : ℕ) : Type 0 where
+pub record Written (lettered : Bool) (p : plans.Plan) (sa sc off val : List ℕ) (r : ℕ) (buf₀ buf : List ℕ) (x y cell s l rest : ℕ) : Type 0 where
   pub below : l < 8
   pub byte : l * 8 < 2 ^ 64
   pub least : 1 ≤ s
@@ -148,20 +148,20 @@ pub record Written (corner : Bool) (p : plans.Plan) (sa sc off val : List ℕ) (
   pub up : getD sc l 0 ≤ y
   pub far : getD off l 0 ≤ cell
   pub ahead : x - getD sa l 0 < x
-  pub next : (v : ℕ) → v ≡ glyphOf corner l → Writing corner p sa sc off val r buf₀ (set buf (s - 1) v) (x - getD sa l 0) (y - getD sc l 0) (cell - getD off l 0) rest (s - 1)
+  pub next : (v : ℕ) → v ≡ glyphOf lettered l → Writing lettered p sa sc off val r buf₀ (set buf (s - 1) v) (x - getD sa l 0) (y - getD sc l 0) (cell - getD off l 0) rest (s - 1)
 
 -- the same by numbers that the code has at hand
-pub write-as : {corner : Bool} {p : plans.Plan} {sa sc off val : List ℕ} {r : ℕ} {buf₀ buf : List ℕ} {x y cell s l rest : ℕ} → Written corner p sa sc off val r buf₀ buf x y cell s l rest → {a o v : ℕ}
-    → a ≡ getD sa l 0 → o ≡ getD off l 0 → v ≡ glyphOf corner l → Writing corner p sa sc off val r buf₀ (set buf (s - 1) v) (x - a) (y - getD sc l 0) (cell - o) rest (s - 1)
+pub write-as : {lettered : Bool} {p : plans.Plan} {sa sc off val : List ℕ} {r : ℕ} {buf₀ buf : List ℕ} {x y cell s l rest : ℕ} → Written lettered p sa sc off val r buf₀ buf x y cell s l rest → {a o v : ℕ}
+    → a ≡ getD sa l 0 → o ≡ getD off l 0 → v ≡ glyphOf lettered l → Writing lettered p sa sc off val r buf₀ (set buf (s - 1) v) (x - a) (y - getD sc l 0) (cell - o) rest (s - 1)
 write-as t ea eo ev = rw (ea, eo) (t .next _ ev)
 
 -- the same by the cell that the step comes from
-pub write-from : {corner : Bool} {p : plans.Plan} {sa sc off val : List ℕ} {r : ℕ} {buf₀ buf : List ℕ} {x y cell s l rest : ℕ} → Written corner p sa sc off val r buf₀ buf x y cell s l rest → {from v : ℕ}
-    → from ≡ sourceOf sa off x cell l → v ≡ glyphOf corner l → Writing corner p sa sc off val r buf₀ (set buf (s - 1) v) (x - getD sa l 0) (y - getD sc l 0) from rest (s - 1)
+pub write-from : {lettered : Bool} {p : plans.Plan} {sa sc off val : List ℕ} {r : ℕ} {buf₀ buf : List ℕ} {x y cell s l rest : ℕ} → Written lettered p sa sc off val r buf₀ buf x y cell s l rest → {from v : ℕ}
+    → from ≡ sourceOf sa off x cell l → v ≡ glyphOf lettered l → Writing lettered p sa sc off val r buf₀ (set buf (s - 1) v) (x - getD sa l 0) (y - getD sc l 0) from rest (s - 1)
 write-from {sa = sa} {off = off} {x = x} {cell = cell} {l = l} t e ev = rw (e ∙ source-in sa off x cell l (t .right)) (t .next _ ev)
 
-module _ {corner : Bool} {p : plans.Plan} {sa sc off val : List ℕ} {r : ℕ} {buf₀ : List ℕ} where
-  pub writing-start : Full p sa sc off val → r < walksFor p sa sc → length buf₀ ≡ 128 → (cell : ℕ) → cell ≡ place (p .m) (p .ey) (p .ex) (p .ey) → Writing corner p sa sc off val r buf₀ buf₀ (p .ex) (p .ey) cell r 128
+module _ {lettered : Bool} {p : plans.Plan} {sa sc off val : List ℕ} {r : ℕ} {buf₀ : List ℕ} where
+  pub writing-start : Full p sa sc off val → r < walksFor p sa sc → length buf₀ ≡ 128 → (cell : ℕ) → cell ≡ place (p .m) (p .ey) (p .ex) (p .ey) → Writing lettered p sa sc off val r buf₀ buf₀ (p .ex) (p .ey) cell r 128
   writing-start fu less long cell ep = record {
     full = fu;
     stand = record { end = omega arith; ends = (omega arith, omega arith); at = ep; fits = fu .fits };
@@ -172,16 +172,16 @@ module _ {corner : Bool} {p : plans.Plan} {sa sc off val : List ℕ} {r : ℕ} {
     so-far = write-start buf₀ _ 128 long;
   }
 
-  module _ {buf : List ℕ} {x y cell left s : ℕ} (w : Writing corner p sa sc off val r buf₀ buf x y cell left s) where
+  module _ {buf : List ℕ} {x y cell left s : ℕ} (w : Writing lettered p sa sc off val r buf₀ buf x y cell left s) where
     plan-of : Slopes (p .k) sa sc (p .hi) (p .m) (p .ex)
     plan-of = w .full .ready .slopes
 
-    pub writing-end : x ≤ 0 → (s ≤ 128) × (drop s buf ≡ edgeFor corner p sa sc r)
+    pub writing-end : x ≤ 0 → (s ≤ 128) × (drop s buf ≡ edgeFor lettered p sa sc r)
     unfolding edgeOf unr
     writing-end h = (
       w .s-le,
-      write-done buf _ (map (glyphOf corner) (unr (p .k) (p .f) sa sc (p .ex) (p .ey) r)) s (ap (map (glyphOf corner)) (unr-start (p .k) (p .f) sa sc (pos-of plan-of) x y left h (w .less))) (w .so-far)
-          ∙ map-reverse (glyphOf corner) (unr (p .k) (p .f) sa sc (p .ex) (p .ey) r),
+      write-done buf _ (map (glyphOf lettered) (unr (p .k) (p .f) sa sc (p .ex) (p .ey) r)) s (ap (map (glyphOf lettered)) (unr-start (p .k) (p .f) sa sc (pos-of plan-of) x y left h (w .less))) (w .so-far)
+          ∙ map-reverse (glyphOf lettered) (unr (p .k) (p .f) sa sc (p .ex) (p .ey) r),
     )
 
     module _ (px : 0 < x) where
@@ -194,7 +194,7 @@ module _ {corner : Bool} {p : plans.Plan} {sa sc off val : List ℕ} {r : ℕ} {
       pub left-of : left < sum (via (p .k) (p .f) sa sc x y) (p .k)
       left-of = omega (arith, w .less, W-step (p .k) (p .f) sa sc (pos-of plan-of) x y px inside-of)
 
-      pub written : (l rest : ℕ) → Sought (via (p .k) (p .f) sa sc x y) (p .k) left l rest → Written corner p sa sc off val r buf₀ buf x y cell s l rest
+      pub written : (l rest : ℕ) → Sought (via (p .k) (p .f) sa sc x y) (p .k) left l rest → Written lettered p sa sc off val r buf₀ buf x y cell s l rest
       written l rest so = record {
         below = omega (arith, plan-of .most, so .falls .inside);
         byte = omega (arith, plan-of .most, so .falls .inside);
@@ -211,7 +211,7 @@ module _ {corner : Bool} {p : plans.Plan} {sa sc off val : List ℕ} {r : ℕ} {
           x-le = omega (arith, w .x-le, go-on);
           s-le = omega (arith, w .s-le);
           room = simp length-set (w .room);
-          so-far = write-turn buf s v (map (glyphOf corner) (unr (p .k) (p .f) sa sc x y left)) _ (omega (arith, w .x-le)) (omega (arith, w .s-le, w .room)) (letters v ev) ∙ w .so-far;
+          so-far = write-turn buf s v (map (glyphOf lettered) (unr (p .k) (p .f) sa sc x y left)) _ (omega (arith, w .x-le)) (omega (arith, w .s-le, w .room)) (letters v ev) ∙ w .so-far;
         };
       }
         where
@@ -221,5 +221,5 @@ module _ {corner : Bool} {p : plans.Plan} {sa sc off val : List ℕ} {r : ℕ} {
           go-on : 1 ≤ getD sa l 0
           go-on = pos-of plan-of l (so .falls .inside)
 
-          letters : (v : ℕ) → v ≡ glyphOf corner l → map (glyphOf corner) (unr (p .k) (p .f) sa sc x y left) ≡ v ∷ map (glyphOf corner) (unr (p .k) (p .f) sa sc (x - getD sa l 0) (y - getD sc l 0) rest)
-          letters v ev = ap (map (glyphOf corner)) (unr-step (p .k) (p .f) sa sc (pos-of plan-of) x y left l rest inside-of so (vp .0) (vp .1)) ∙ ap (λ (z : ℕ). z ∷ map (glyphOf corner) (unr (p .k) (p .f) sa sc (x - getD sa l 0) (y - getD sc l 0) rest)) (sym ev)
+          letters : (v : ℕ) → v ≡ glyphOf lettered l → map (glyphOf lettered) (unr (p .k) (p .f) sa sc x y left) ≡ v ∷ map (glyphOf lettered) (unr (p .k) (p .f) sa sc (x - getD sa l 0) (y - getD sc l 0) rest)
+          letters v ev = ap (map (glyphOf lettered)) (unr-step (p .k) (p .f) sa sc (pos-of plan-of) x y left l rest inside-of so (vp .0) (vp .1)) ∙ ap (λ (z : ℕ). z ∷ map (glyphOf lettered) (unr (p .k) (p .f) sa sc (x - getD sa l 0) (y - getD sc l 0) rest)) (sym ev)

@@ -6,7 +6,6 @@
 --   for-over, for-beyond, for-all    what is answered by the table's count and the numbers
 --   build-over, build-none, build-empty    the count needs more than 64 bits; it is 0, and there are numbers or none
 --   plan-builds                 what the table of a shape's plan says is the job's
---   build-other, build-told, build-reply, build-shaped    the ways through a block; t: it is of families that another crate answers
 use mathlib.Core.Path.{_≡_, refl, sym, ap, _∙_}
 use mathlib.Core.Bool.{Bool, true, false}
 use mathlib.Core.List.{List, [], _∷_, _++_, map}
@@ -21,9 +20,9 @@ use Rattle.howmany.proofs.Choices.{holds}
 use Rattle.rules.specs.Jobs as rules
 use Rattle.rules.specs.Counts.{countOf}
 use Rattle.rules.specs.Numbers.{edgeOf}
-use Rattle.rules.specs.Blocks.{familyOf, square, jobAnswer}
+use Rattle.rules.specs.Blocks.{jobAnswer}
 use Rattle.rules.specs.Refusals.{check, refusalNumber}
-use Rattle.rules.specs.Refusals.Refusal.{kind, over, beyond}
+use Rattle.rules.specs.Refusals.Refusal.{over, beyond}
 use Rattle.rules.specs.Refusals.Answer.{accepted}
 use Rattle.rules.specs.Answers.{most, written}
 use Rattle.rules.specs.Packs.{joined}
@@ -35,19 +34,18 @@ use Rattle.job.specs.Replies.{BuiltAs}
 use Rattle.job.specs.declared.Built.{Built}
 use Rattle.job.specs.declared.Built.the-variants.{Length, Refused}
 use Rattle.job.specs.declared.Job.{Job}
-use Rattle.job.proofs.Standing.{Kept, Told}
+use Rattle.job.proofs.Standing.{Told}
 use Rattle.lines.specs.Lines.{endsFrom, lined, LinedAs}
 use Rattle.lines.proofs.Lining.{Lining, lining-next, lined-refused}
 use Rattle.tables.specs.Form.{W}
 use Rattle.tables.specs.Edges as edges
-use Rattle.tables.specs.Shapes.{Grids, isCorner, Fits, ShapedFor}
+use Rattle.tables.specs.Shapes.{Grids, isLettered, Fits}
 use Rattle.tables.specs.Spelling.{Front, edgesFor}
-use Rattle.tables.specs.Calls.{except, edgesOf, BuildsOf, BuildsAs}
+use Rattle.lines.specs.Known.{edgesOf, BuildsOf}
 use Rattle.tables.specs.Plans.{PlanOf, walksFor, ListsFor, BuildsFor}
 use Rattle.tables.specs.declared.Plan.{Plan}
 use Rattle.tables.specs.declared.Shape.{Shape}
-use Rattle.tables.proofs.Grounds.{stands-range, shape-count}
-use Rattle.tables.proofs.Counted.{kept-grids}
+use Rattle.tables.proofs.Grounds.{shape-count}
 use Rattle.tables.proofs.Worded.{shape-spells}
 
 -- ---- one edge, and all of them
@@ -71,18 +69,18 @@ front-next g ns steps ends i at s t so n part l w = lining-next g ns steps ends 
 pub below-told : (ns : List ℕ) (w c : ℕ) (t : Bool) → c ≡ w → t ≡ allBelow c ns → allBelow w ns ≡ t
 below-told ns w c t e q = sym (q ∙ ap (λ (z : ℕ). allBelow z ns) e)
 
-module _ (corner : Bool) (p : Plan) (sa sc ns steps ends : List ℕ) where
-  pub for-over : 2 ^ 64 ≤ walksFor p sa sc → BuildsFor corner p sa sc ns steps ends steps ends (Refused 4)
+module _ (lettered : Bool) (p : Plan) (sa sc ns steps ends : List ℕ) where
+  pub for-over : 2 ^ 64 ≤ walksFor p sa sc → BuildsFor lettered p sa sc ns steps ends steps ends (Refused 4)
   unfolding refusalNumber
-  for-over l = lined-refused (edgesFor corner (p .k) (p .f) sa sc (p .ex) (p .ey) ns) over 4 steps ends (rw (lt-leb (walksFor p sa sc) most (omega arith)) refl) refl
+  for-over l = lined-refused (edgesFor lettered (p .k) (p .f) sa sc (p .ex) (p .ey) ns) over 4 steps ends (rw (lt-leb (walksFor p sa sc) most (omega arith)) refl) refl
 
-  pub for-beyond : walksFor p sa sc < 2 ^ 64 → allBelow (walksFor p sa sc) ns ≡ false → BuildsFor corner p sa sc ns steps ends steps ends (Refused 6)
+  pub for-beyond : walksFor p sa sc < 2 ^ 64 → allBelow (walksFor p sa sc) ns ≡ false → BuildsFor lettered p sa sc ns steps ends steps ends (Refused 6)
   unfolding refusalNumber
   for-beyond l e =
-      lined-refused (edgesFor corner (p .k) (p .f) sa sc (p .ex) (p .ey) ns) beyond 6 steps ends (rw (le-leb (walksFor p sa sc) most (omega arith), e) refl) refl
+      lined-refused (edgesFor lettered (p .k) (p .f) sa sc (p .ex) (p .ey) ns) beyond 6 steps ends (rw (le-leb (walksFor p sa sc) most (omega arith), e) refl) refl
 
   pub for-all : (n : ℕ) (s t : List ℕ) → walksFor p sa sc < 2 ^ 64 → allBelow (walksFor p sa sc) ns ≡ true
-      → ListsFor corner p sa sc ns steps ends s t n → BuildsFor corner p sa sc ns steps ends s t (Length n)
+      → ListsFor lettered p sa sc ns steps ends s t n → BuildsFor lettered p sa sc ns steps ends s t (Length n)
   for-all n s t l e w = rw (le-leb (walksFor p sa sc) most (omega arith), e) w
 
 -- ---- by the job's count
@@ -112,15 +110,15 @@ same-edges g h c [] e l = refl
 same-edges g h c (n ∷ ns) e l =
     ap (λ (z : List ℕ). z ∷ map g ns) (e n (l 0 (omega arith))) ∙ ap (λ (z : List (List ℕ)). h n ∷ z) (same-edges g h c ns e (λ i b. l (suc i) (omega arith)))
 
-module _ (J : rules.Job) (s : Shape) (r : InRange J) (f : Fits J s) {corner : Bool} {p : Plan} (po : PlanOf s p) (c : isCorner J ≡ corner) (g : Grids J) where
-  plan-edges : (ns : List ℕ) → edgesFor corner (p .k) (p .f) (s .sa) (s .sc) (p .ex) (p .ey) ns ≡ edgesOf J ns
+module _ (J : rules.Job) (s : Shape) (r : InRange J) (f : Fits J s) {lettered : Bool} {p : Plan} (po : PlanOf s p) (c : isLettered J ≡ lettered) (g : Grids J) where
+  plan-edges : (ns : List ℕ) → edgesFor lettered (p .k) (p .f) (s .sa) (s .sc) (p .ex) (p .ey) ns ≡ edgesOf J ns
   plan-edges ns = rw (← c, po .k-is, po .f-is, po .ex-is, po .ey-is, same) (go (allBelow (countOf J) ns) refl)
     where
       same : W (s .k) (s .f) (s .sa) (s .sc) (s .ex) (s .ey) ≡ countOf J
       same = shape-count J s r f
 
       by : ℕ → List ℕ
-      by = edges.edgeOf (isCorner J) (s .k) (s .f) (s .sa) (s .sc) (s .ex) (s .ey)
+      by = edges.edgeOf (isLettered J) (s .k) (s .f) (s .sa) (s .sc) (s .ex) (s .ey)
 
       go : (t : Bool) → allBelow (countOf J) ns ≡ t
           → check (leb (countOf J) most) over (check t beyond (accepted (map by ns))) ≡ check (leb (countOf J) most) over (check t beyond (accepted (map (edgeOf J) ns)))
@@ -129,25 +127,5 @@ module _ (J : rules.Job) (s : Shape) (r : InRange J) (f : Fits J s) {corner : Bo
           (same-edges by (edgeOf J) (countOf J) ns (λ q l. shape-spells J s g r f q (omega (arith, same))) (below-at (countOf J) ns (holds e)))
       go false e = refl
 
-  pub plan-builds : (ns steps ends : List ℕ) (x : Built) (t u : List ℕ) → BuildsFor corner p (s .sa) (s .sc) ns steps ends t u x → BuildsOf J ns steps ends t u x
+  pub plan-builds : (ns steps ends : List ℕ) (x : Built) (t u : List ℕ) → BuildsFor lettered p (s .sa) (s .sc) ns steps ends t u x → BuildsOf J ns steps ends t u x
   plan-builds ns steps ends x t u l = rw (plan-edges ns) at l
-
--- ---- the ways through a block
-
-module _ (b ns steps ends : List ℕ) where
-  pub build-other : {t : Bool} → t ≡ true → LinedAs (lined (except t (edgesAnswer b ns)) steps ends) (Refused 11) steps ends
-  unfolding refusalNumber
-  build-other {t} e = lined-refused (except t (edgesAnswer b ns)) kind 11 steps ends (rw e refl) refl
-
-  pub build-told : (r : ℕ) {t : Bool} → t ≡ false → Told b r → LinedAs (lined (except t (edgesAnswer b ns)) steps ends) (Refused r) steps ends
-  build-told r {t} e o =
-      lined-refused (except t (edgesAnswer b ns)) (o .refusal) r steps ends
-      (rw e (edges-told b ns (o .refusal) (known-told b (o .refusal) (o .answer)))) (o .number)
-
-  pub build-reply : (J : rules.Job) (x : Built) (s u : List ℕ) {t : Bool} → t ≡ false → jobAnswer b ≡ accepted J
-      → BuildsOf J ns steps ends s u x → LinedAs (lined (except t (edgesAnswer b ns)) steps ends) x s u
-  build-reply J x s u e a q = rw (e, edges-fitted b ns J a) q
-
-  pub build-shaped : (j : Job) (k : Kept b j) → square (familyOf b) ≡ false → {t : Bool} → t ≡ false → {s : Shape} → ShapedFor j s → (x : Built) (v u : List ℕ)
-      → BuildsAs s ns steps ends v u x → LinedAs (lined (except t (edgesAnswer b ns)) steps ends) x v u
-  build-shaped j k q n w x v u h = build-reply (k .job) x v u n (k .answer) (h (k .job) (stands-range j (k .job) (k .stands)) (kept-grids b j k q) (w (k .job) (k .stands)))

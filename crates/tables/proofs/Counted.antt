@@ -1,16 +1,14 @@
--- The count of a job, from its shape and its table. Assumes nothing.
+-- Counts and numbers of a job, from its shape and its table. Assumes nothing.
 --
 --   Working J s                                the shape has steps and an end to be worked out, and the job's letters are digits
 --   state-none, state-empty, state-working     what a shape's state says
 --   counts-over, counts-value, counts-told     the reply for each way to a count
---   number-over, number-none                   the reply for each way to a number that asks no table
---   plan-count, plan-number                    what the table of a shape's plan says is the job's
---   kept-grids, sound-of, countable-of         what holds of the job of a block
---   other-reply, told-reply, count-reply ..    the reply for each way through a block; t: it is of families that another crate answers
---   count-shaped, number-shaped                the reply by the job's shape
+--   kept-grids, sound-of, shaped-in            what holds of the job of a block
+--   numbers-over, numbers-none                 what is answered to a list of edges without a table
+--   plan-count, plan-numbers                   what the table of a shape's plan says is the job's
 use mathlib.Core.Path.{_≡_, refl, sym, ap, _∙_}
-use mathlib.Core.Bool.{Bool, true, false}
-use mathlib.Core.List.{List}
+use mathlib.Core.Bool.{Bool, false}
+use mathlib.Core.List.{List, [], _∷_}
 use Prim.Native.Nat.{ℕ, _^_, _≤_, _<_}
 use native.Mathlib.Omega.{arith}
 use lib.Dec.{leb}
@@ -18,31 +16,33 @@ use borrow.Author.Tests.{le-leb, lt-leb}
 use Rattle.howmany.proofs.Choices.{is-false, holds}
 use Rattle.rules.specs.Jobs as rules
 use Rattle.rules.specs.Counts.{countOf}
-use Rattle.rules.specs.Points.{origin}
-use Rattle.rules.specs.Valid.{walks, Valid}
+use Rattle.rules.specs.Valid.{isEdge, Valid}
 use Rattle.rules.specs.Numbers.{numberOf}
 use Rattle.rules.specs.Blocks.{familyOf, square, jobAnswer}
-use Rattle.rules.specs.Refusals.{Answer, check, refusalNumber}
-use Rattle.rules.specs.Refusals.Refusal.{over, not-an-edge}
-use Rattle.rules.specs.Refusals.Answer.{accepted, refused}
-use Rattle.rules.specs.Answers.{most, countAnswer, numberAnswer}
+use Rattle.rules.specs.Refusals.{check, refusalNumber}
+use Rattle.rules.specs.Refusals.Refusal.{over}
+use Rattle.rules.specs.Refusals.Answer.{accepted}
+use Rattle.rules.specs.Answers.{most, countAnswer}
 use Rattle.rules.specs.Ranges.{InRange}
-use Rattle.rules.proofs.Answering.{known-told, count-told, count-fitted, number-told, number-fitted}
-use Rattle.job.specs.Replies.{reply, countSays, numberSays}
+use Rattle.rules.proofs.Answering.{known-told, count-told, count-fitted}
+use Rattle.job.specs.Replies.{reply, countSays}
 use Rattle.job.specs.Replies.Reply.{refusal}
 use Rattle.job.specs.declared.Job.{Job}
 use Rattle.job.specs.declared.Counted.{Counted}
 use Rattle.job.specs.declared.Counted.the-variants.{Count as Counts, Refused}
-use Rattle.job.specs.declared.Numbered.{Numbered}
-use Rattle.job.specs.declared.Numbered.the-variants.{Refused as NumberRefused}
 use Rattle.job.proofs.Standing.{Kept, Told}
+use Rattle.lines.specs.declared.Ranked.{Ranked}
+use Rattle.lines.specs.declared.Ranked.the-variants.{Upto, Refused as RanksRefused}
+use Rattle.lines.specs.Ranks.{frontBy, ranksOf, ranksAnswer, ranked, RankedAs}
+use Rattle.lines.proofs.Ranking.{front-cong, ranked-refused, ranks-told, ranks-fitted}
 use Rattle.tables.specs.Cells.{capOf}
-use Rattle.tables.specs.Shapes.{Grids, Sound, isCorner, FormOf, Fits, Shaped, ShapedFor}
+use Rattle.tables.specs.Shapes.{Grids, Sound, isLettered, FormOf, Fits, Shaped, ShapedFor}
 use Rattle.tables.specs.Edges as edges
-use Rattle.tables.specs.Numbering.{tableNumber}
+use Rattle.tables.specs.Numbering.{tableRanks}
 use Rattle.tables.specs.Shapes.Shaped.{worked, nothing}
-use Rattle.tables.specs.Calls.{except, toldOf, Countable, CountsOf, CountsAs, NumbersOf, NumbersAs}
-use Rattle.tables.specs.Plans.{PlanOf, walksFor, numberFor}
+use Rattle.lines.specs.Known.{CountsOf, ranksFrom, NumbersOf}
+use Rattle.tables.specs.Calls.{ShapedIn, toldOf}
+use Rattle.tables.specs.Plans.{PlanOf, walksFor, NumbersFor}
 use Rattle.tables.specs.declared.Plan.{Plan}
 use Rattle.tables.specs.declared.Shape.{Shape}
 use Rattle.tables.specs.declared.Answer as counts
@@ -52,7 +52,7 @@ use Rattle.tables.proofs.Worded.{shape-edge, shape-number}
 use Rattle.tables.proofs.Grounds.{grids-of, stands-range, shape-count}
 
 pub record Working (J : rules.Job) (s : Shape) : Type 0 where
-  pub letters : isCorner J ≡ false
+  pub letters : isLettered J ≡ false
   pub form : FormOf s
   pub fits : Fits J s
 
@@ -88,16 +88,6 @@ counts-told J {w} e q t = rw t (go _ q)
 
 -- ---- the ways through a block
 
-pub other-reply : {t : Bool} (a : Answer ℕ) → t ≡ true → refusal 11 ≡ reply (except t a)
-unfolding refusalNumber
-other-reply a e = rw e refl
-
-told-reply : (b : List ℕ) (r : ℕ) (a : Answer ℕ) {t : Bool} → t ≡ false → (o : Told b r) → a ≡ refused (o .refusal) → refusal r ≡ reply (except t a)
-told-reply b r a e t q = rw (e, q) (ap refusal (t .number))
-
-pub count-told-reply : (b : List ℕ) (r : ℕ) {t : Bool} → t ≡ false → Told b r → refusal r ≡ reply (except t (countAnswer b))
-count-told-reply b r e t = told-reply b r (countAnswer b) e t (count-told b (t .refusal) (known-told b (t .refusal) (t .answer)))
-
 module _ (b : List ℕ) (j : Job) (k : Kept b j) (e : square (familyOf b) ≡ false) where
   pub kept-grids : Grids (k .job)
   kept-grids = grids-of j (k .job) (k .stands) (ap square (k .family) ∙ e)
@@ -105,52 +95,39 @@ module _ (b : List ℕ) (j : Job) (k : Kept b j) (e : square (familyOf b) ≡ fa
   pub sound-of : Sound j
   sound-of = record { job = k .job; stands = k .stands; grids = kept-grids }
 
-  pub countable-of : {s : Shape} → ShapedFor j s → Countable s
-  countable-of w = record { job = k .job; range = stands-range j (k .job) (k .stands); grids = kept-grids; shaped = w (k .job) (k .stands) }
-
-pub count-reply : (b : List ℕ) (J : rules.Job) (x : Counted) {t : Bool} → t ≡ false → jobAnswer b ≡ accepted J
-    → CountsOf J x → countSays x ≡ reply (except t (countAnswer b))
-count-reply b J x e a q = q ∙ rw e (ap reply (sym (count-fitted b J a)))
+  pub shaped-in : {s : Shape} → ShapedFor j s → ShapedIn b s
+  shaped-in w = record {
+    shape = record { job = k .job; range = stands-range j (k .job) (k .stands); grids = kept-grids; shaped = w (k .job) (k .stands) };
+    answer = k .answer;
+  }
 
 -- ---- numbers
 
-pub number-over : (J : rules.Job) (e : List ℕ) → 2 ^ 64 ≤ countOf J → NumbersOf J e (NumberRefused 4)
-unfolding refusalNumber
-number-over J e l = rw (lt-leb (countOf J) most (omega arith)) refl
+module _ (J : rules.Job) (es : List (List ℕ)) (before : List ℕ) where
+  pub numbers-over : 2 ^ 64 ≤ countOf J → NumbersOf J es before before (RanksRefused 4)
+  unfolding refusalNumber
+  numbers-over l = ranked-refused (ranksFrom J es) over 4 before (rw (lt-leb (countOf J) most (omega arith)) refl) refl
 
-pub number-none : (J : rules.Job) (e : List ℕ) → countOf J ≡ 0 → (Valid J e → ⊥) → NumbersOf J e (NumberRefused 5)
-unfolding refusalNumber Valid
-number-none J e z n = rw (le-leb (countOf J) most (omega arith), is-false (walks J origin e) n) refl
+  pub numbers-none : countOf J ≡ 0 → ((e : List ℕ) → Valid J e → ⊥) → NumbersOf J es before before (Upto 0)
+  unfolding ranked Valid frontBy
+  numbers-none z n = rw (le-leb (countOf J) most (omega arith)) (go es)
+    where
+      go : (es : List (List ℕ)) → RankedAs (ranked (accepted (ranksOf J es)) before) (Upto 0) before
+      go [] = record { says = refl; numbers-are = refl }
+      go (e ∷ es) = rw (is-false (isEdge J e) (n e)) (record { says = refl; numbers-are = refl })
 
 module _ (J : rules.Job) (s : Shape) (r : InRange J) (f : Fits J s) {p : Plan} (po : PlanOf s p) where
   pub plan-count : walksFor p (s .sa) (s .sc) ≡ countOf J
   plan-count = rw (po .k-is, po .f-is, po .ex-is, po .ey-is) (shape-count J s r f)
 
   -- the table's answer is the job's, in the job's letters
-  pub plan-number : {corner : Bool} → isCorner J ≡ corner → Grids J → (e : List ℕ) (x : Numbered) → numberSays x ≡ reply (numberFor corner p (s .sa) (s .sc) e) → NumbersOf J e x
-  unfolding tableNumber
-  plan-number c g e x h =
-      h ∙ rw (← c, po .k-is, po .f-is, po .ex-is, po .ey-is, shape-count J s r f, shape-edge J s g r f e) (ap reply (go (walks J origin e) refl))
+  pub plan-numbers : {lettered : Bool} → isLettered J ≡ lettered → Grids J → (es : List (List ℕ)) (before after : List ℕ) (x : Ranked)
+      → NumbersFor lettered p (s .sa) (s .sc) es before after x → NumbersOf J es before after x
+  unfolding tableRanks
+  plan-numbers {lettered} c g es before after x h = rw same at h
     where
-      n : ℕ
-      n = edges.numberOf (isCorner J) (s .k) (s .f) (s .sa) (s .sc) (s .ex) (s .ey) e
+      fronts : frontBy (edges.isEdge (isLettered J) (s .k) (s .f) (s .sa) (s .sc) (s .ex) (s .ey)) (edges.numberOf (isLettered J) (s .k) (s .f) (s .sa) (s .sc) (s .ex) (s .ey)) es ≡ ranksOf J es
+      fronts = front-cong _ (isEdge J) _ (numberOf J) (shape-edge J s g r f) (λ e t. shape-number J s g r f e (holds t)) es
 
-      go : (t : Bool) → walks J origin e ≡ t
-          → check (leb (countOf J) most) over (check t not-an-edge (accepted n)) ≡ check (leb (countOf J) most) over (check t not-an-edge (accepted (numberOf J e)))
-      go true q = ap (λ (x : ℕ). check (leb (countOf J) most) over (accepted x)) (shape-number J s g r f e (holds q))
-      go false q = refl
-
-pub number-told-reply : (b : List ℕ) (e : List ℕ) (r : ℕ) {t : Bool} → t ≡ false → Told b r → refusal r ≡ reply (except t (numberAnswer b e))
-number-told-reply b s r e t = told-reply b r (numberAnswer b s) e t (number-told b s (t .refusal) (known-told b (t .refusal) (t .answer)))
-
-pub number-reply : (b : List ℕ) (e : List ℕ) (J : rules.Job) (x : Numbered) {t : Bool} → t ≡ false → jobAnswer b ≡ accepted J
-    → NumbersOf J e x → numberSays x ≡ reply (except t (numberAnswer b e))
-number-reply b e J x h a q = q ∙ rw h (ap reply (sym (number-fitted b e J a)))
-
--- the answer of the job's shape is the block's
-module _ (b : List ℕ) (j : Job) (k : Kept b j) (q : square (familyOf b) ≡ false) {t : Bool} (n : t ≡ false) {s : Shape} (w : ShapedFor j s) where
-  pub count-shaped : (x : Counted) → CountsAs s x → countSays x ≡ reply (except t (countAnswer b))
-  count-shaped x h = count-reply b (k .job) x n (k .answer) (h (k .job) (stands-range j (k .job) (k .stands)) (w (k .job) (k .stands)))
-
-  pub number-shaped : (e : List ℕ) (x : Numbered) → NumbersAs s e x → numberSays x ≡ reply (except t (numberAnswer b e))
-  number-shaped e x h = number-reply b e (k .job) x n (k .answer) (h (k .job) (stands-range j (k .job) (k .stands)) (kept-grids b j k q) (w (k .job) (k .stands)))
+      same : tableRanks lettered (p .k) (p .f) (s .sa) (s .sc) (p .ex) (p .ey) es ≡ ranksFrom J es
+      same = rw (← c, po .k-is, po .f-is, po .ex-is, po .ey-is, shape-count J s r f) (ap (λ (rs : List ℕ). check (leb (countOf J) most) over (accepted rs)) fronts)

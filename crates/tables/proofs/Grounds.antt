@@ -21,8 +21,8 @@ use Rattle.rules.specs.Jobs.Job.{north-east, dyck, delannoy, schroder, motzkin,
 use Rattle.rules.specs.Counts.{countOf}
 use Rattle.rules.specs.Shear.{gridOf}
 use Rattle.rules.specs.Blocks.{square}
-use Rattle.rules.proofs.Corners.{north-east-shear, delannoy-shear}
-use Rattle.rules.proofs.Slopes.{slope-shear}
+use Rattle.rules.proofs.Plains.{north-east-counted, delannoy-counted}
+use Rattle.rules.proofs.Slopes.{slope-counted}
 use Rattle.rules.specs.Ranges.{InRange}
 use Rattle.job.specs.declared.Job.{Job}
 use Rattle.job.specs.Stands.{Stands}
@@ -49,7 +49,7 @@ grids-of j (dyck n) (as-dyck e v) q = subst (λ (t : Bool). T t) (sym (square-tw
 grids-of j (delannoy n m) s q = tt
 grids-of j (schroder n) (as-schroder e v) q = subst (λ (t : Bool). T t) (sym (square-four (j .family) e) ∙ q) tt
 grids-of j (motzkin n) (as-motzkin e v) q = subst (λ (t : Bool). T t) (sym (square-five (j .family) e) ∙ q) tt
-grids-of j (directed f n m p) s q = tt
+grids-of j (directed f n m z p) s q = tt
 
 -- a job that a held job stands for is in range
 pub stands-range : (j : Job) (J : rules.Job) → Stands j J → InRange J
@@ -58,17 +58,17 @@ stands-range j (dyck n) s = tt
 stands-range j (delannoy n m) s = tt
 stands-range j (schroder n) s = tt
 stands-range j (motzkin n) s = tt
-stands-range j (directed f n m p) (as-open e d) = small j false m p d
-stands-range j (directed f n m p) (as-fenced e d) = small j true m p d
+stands-range j (directed f n m z p) (as-open e d) = small j false m p d
+stands-range j (directed f n m z p) (as-fenced e d) = small j true m p d
 
 pub end-count : (J : rules.Job) → InRange J → (q : Spot) → Sits J q → countOf J ≡ paths (gridOf J) q
 unfolding countOf
-end-count (north-east n m) r q s = north-east-shear n m .agrees (record { x = n; y = pos m }) q s
+end-count (north-east n m) r q s = north-east-counted n m .agrees (record { x = n; y = pos m }) q s
 end-count (dyck n) r q s = absurd s
-end-count (delannoy n m) r q s = delannoy-shear n m .agrees (record { x = n; y = pos m }) q s
+end-count (delannoy n m) r q s = delannoy-counted n m .agrees (record { x = n; y = pos m }) q s
 end-count (schroder n) r q s = absurd s
 end-count (motzkin n) r q s = absurd s
-end-count (directed f n m p) r q s = slope-shear f p r n m .agrees (record { x = n; y = m }) q s
+end-count (directed f n m z p) r q s = slope-counted f z p r .agrees (record { x = n; y = m }) q s
 
 pub record Walked (G : Steps) (q : Spot) (s : Shape) : Type 1 where
   pub At : Spot → Spot → Type 0

@@ -19,8 +19,7 @@ use lib.ListN.{length, getD}
 use borrow.Author.Tests.{eq-eqb, ne-eqb}
 use Rattle.howmany.specs.Sum.{sum}
 use Rattle.howmany.proofs.Sums.{sum-cong, sum-mono, sum-below}
-use Rattle.job.specs.Replies.{reply}
-use Rattle.job.specs.Replies.Reply.{value, refusal}
+use Rattle.lines.specs.declared.Rank.the-variants.{At, NoEdge}
 use Rattle.backward.specs.Reader.{rank, count}
 use Rattle.backward.specs.Grid.{grid}
 use Rattle.backward.proofs.Grids.{back-count}
@@ -29,7 +28,7 @@ use Rattle.letters.specs.Letters.{placeOf}
 use Rattle.tables.specs.Cells.{capOf, cellAt, place, sourceOf}
 use Rattle.tables.specs.declared.Plan as plans
 use Rattle.tables.specs.Table.{Ends, Cells}
-use Rattle.tables.specs.Plans.{strideFor, walksFor, numberFor, validFor, rankFor}
+use Rattle.tables.specs.Plans.{strideFor, walksFor, validFor, rankFor, RankFor}
 use Rattle.tables.specs.Filling.{Solid, Full}
 use Rattle.tables.specs.Edges.{endOf, numberOf, Reads}
 use Rattle.tables.proofs.Laws.{onward, sum-more, via-in, W-step, cell-value}
@@ -37,7 +36,6 @@ use Rattle.tables.proofs.Counts.{pos-of}
 use Rattle.tables.proofs.Columns.{source-left, source-in, rows, grow, brings}
 use Rattle.tables.proofs.Phases.{last-row}
 use Rattle.tables.proofs.Reading.{wordTo, word-all, word-cons, word-none, back-is, end-in, ok, ok-all, ok-end, ok-out, ok-no-letter, ok-left, ok-under, ok-step}
-use Rattle.tables.proofs.Tabled.{table-not, table-number}
 
 -- ---- numbers of words
 
@@ -46,28 +44,28 @@ unfolding via
 brought k f sa sc pos x y j = back-count (stepsIn k f sa sc) (onward k f sa sc pos) (spot x y) j
 
 unfoldable pub num : Bool → ℕ → ℕ → List ℕ → List ℕ → List ℕ → ℕ → ℕ → ℕ → ℕ
-num corner k f sa sc e i x y = rank (grid (stepsIn k f sa sc)) (wordTo (placeOf corner) e i) (endOf k f sa sc x y)
+num lettered k f sa sc e i x y = rank (grid (stepsIn k f sa sc)) (wordTo (placeOf lettered) e i) (endOf k f sa sc x y)
 
-module _ (corner : Bool) (k f : ℕ) (sa sc e : List ℕ) where
-  pub num-all : (x y : ℕ) → num corner k f sa sc e (length e) x y ≡ numberOf corner k f sa sc x y e
+module _ (lettered : Bool) (k f : ℕ) (sa sc e : List ℕ) where
+  pub num-all : (x y : ℕ) → num lettered k f sa sc e (length e) x y ≡ numberOf lettered k f sa sc x y e
   unfolding num numberOf
-  num-all x y = ap (λ (w : List ℕ). rank (grid (stepsIn k f sa sc)) w (endOf k f sa sc x y)) (word-all (placeOf corner) e)
+  num-all x y = ap (λ (w : List ℕ). rank (grid (stepsIn k f sa sc)) w (endOf k f sa sc x y)) (word-all (placeOf lettered) e)
 
-  pub num-none : (i x y : ℕ) → i ≤ 0 → num corner k f sa sc e i x y ≡ 0
+  pub num-none : (i x y : ℕ) → i ≤ 0 → num lettered k f sa sc e i x y ≡ 0
   unfolding num rank
-  num-none i x y h = ap (λ (w : List ℕ). rank (grid (stepsIn k f sa sc)) w (endOf k f sa sc x y)) (word-none (placeOf corner) e i h)
+  num-none i x y h = ap (λ (w : List ℕ). rank (grid (stepsIn k f sa sc)) w (endOf k f sa sc x y)) (word-none (placeOf lettered) e i h)
 
   module _ (pos : (i : ℕ) → i < k → 1 ≤ getD sa i 0) where
-    pub num-step : (i x y l : ℕ) → 0 < i → l ≡ placeOf corner (getD e (i - 1) 0) → T (wall f x y) → getD sa l 0 ≤ x → getD sc l 0 ≤ y
-        → num corner k f sa sc e i x y ≡ sum (via k f sa sc x y) l + num corner k f sa sc e (i - 1) (x - getD sa l 0) (y - getD sc l 0)
+    pub num-step : (i x y l : ℕ) → 0 < i → l ≡ placeOf lettered (getD e (i - 1) 0) → T (wall f x y) → getD sa l 0 ≤ x → getD sc l 0 ≤ y
+        → num lettered k f sa sc e i x y ≡ sum (via k f sa sc x y) l + num lettered k f sa sc e (i - 1) (x - getD sa l 0) (y - getD sc l 0)
     unfolding num rank
     num-step i x y l h q n a c =
-        ap (λ (w : List ℕ). rank (grid (stepsIn k f sa sc)) w (endOf k f sa sc x y)) (word-cons (placeOf corner) e i l h q)
-        ∙ ap (rank (grid (stepsIn k f sa sc)) (l ∷ wordTo (placeOf corner) e (i - 1))) (end-in k f sa sc x y n)
+        ap (λ (w : List ℕ). rank (grid (stepsIn k f sa sc)) w (endOf k f sa sc x y)) (word-cons (placeOf lettered) e i l h q)
+        ∙ ap (rank (grid (stepsIn k f sa sc)) (l ∷ wordTo (placeOf lettered) e (i - 1))) (end-in k f sa sc x y n)
         ∙ omega (
           arith,
           sum-cong (λ j. count (grid (stepsIn k f sa sc)) (grid (stepsIn k f sa sc) .back (spot x y) j)) (via k f sa sc x y) l (λ j _. brought k f sa sc pos x y j),
-          ap (rank (grid (stepsIn k f sa sc)) (wordTo (placeOf corner) e (i - 1))) (back-is k f sa sc x y l a c),
+          ap (rank (grid (stepsIn k f sa sc)) (wordTo (placeOf lettered) e (i - 1))) (back-is k f sa sc x y l a c),
         )
 
 -- ---- a filled table
@@ -136,39 +134,39 @@ module _ {k f : ℕ} {sa sc off val : List ℕ} {x y p : ℕ} (rd : Reads k f sa
 -- ---- the loop of `read`: the letters from i on led back from the end to (x, y). What they stand for and all walks to (x, y) are no more
 -- than the walks to the end, so that the sum fits, be the bytes an edge or not
 
-pub record Walking (corner : Bool) (p : plans.Plan) (sa sc off val e : List ℕ) (acc x y cell i : ℕ) : Type 0 where
+pub record Walking (lettered : Bool) (p : plans.Plan) (sa sc off val e : List ℕ) (acc x y cell i : ℕ) : Type 0 where
   pub full : Full p sa sc off val
   pub i-le : i ≤ length e
   pub stand : Stand p sa sc x y cell
   pub under : acc + W (p .k) (p .f) sa sc x y ≤ walksFor p sa sc
-  pub same : ok corner (p .k) (p .f) sa sc e i x y ≡ validFor corner p sa sc e
-  pub total : acc + num corner (p .k) (p .f) sa sc e i x y ≡ rankFor corner p sa sc e
+  pub same : ok lettered (p .k) (p .f) sa sc e i x y ≡ validFor lettered p sa sc e
+  pub total : acc + num lettered (p .k) (p .f) sa sc e i x y ≡ rankFor lettered p sa sc e
 
-pub record Stepped (corner : Bool) (p : plans.Plan) (sa sc off val e : List ℕ) (acc x y cell i l : ℕ) : Type 0 where
+pub record Stepped (lettered : Bool) (p : plans.Plan) (sa sc off val e : List ℕ) (acc x y cell i l : ℕ) : Type 0 where
   pub fewer : i - 1 < i
   pub below : l ≤ p .k
   pub reads : Reads (p .k) (p .f) sa sc off val x y cell
   pub far : getD off l 0 ≤ cell
   pub fits : {v : ℕ} → v ≡ sum (via (p .k) (p .f) sa sc x y) l → acc + v < 2 ^ 64
-  pub next : {v : ℕ} → v ≡ sum (via (p .k) (p .f) sa sc x y) l → Walking corner p sa sc off val e (acc + v) (x - getD sa l 0) (y - getD sc l 0) (cell - getD off l 0) (i - 1)
+  pub next : {v : ℕ} → v ≡ sum (via (p .k) (p .f) sa sc x y) l → Walking lettered p sa sc off val e (acc + v) (x - getD sa l 0) (y - getD sc l 0) (cell - getD off l 0) (i - 1)
 
 -- the same by numbers that the code has at hand
-pub step-as : {corner : Bool} {p : plans.Plan} {sa sc off val e : List ℕ} {acc x y cell i l : ℕ} → Stepped corner p sa sc off val e acc x y cell i l → {a u o v t : ℕ}
-    → a ≡ getD sa l 0 → u ≡ getD sc l 0 → o ≡ getD off l 0 → v ≡ sum (via (p .k) (p .f) sa sc x y) l → t ≡ acc + v → Walking corner p sa sc off val e t (x - a) (y - u) (cell - o) (i - 1)
+pub step-as : {lettered : Bool} {p : plans.Plan} {sa sc off val e : List ℕ} {acc x y cell i l : ℕ} → Stepped lettered p sa sc off val e acc x y cell i l → {a u o v t : ℕ}
+    → a ≡ getD sa l 0 → u ≡ getD sc l 0 → o ≡ getD off l 0 → v ≡ sum (via (p .k) (p .f) sa sc x y) l → t ≡ acc + v → Walking lettered p sa sc off val e t (x - a) (y - u) (cell - o) (i - 1)
 step-as s ea eu eo ev et = rw (et, ea, eu, eo) (s .next ev)
 
-module _ {corner : Bool} {p : plans.Plan} {sa sc off val e : List ℕ} where
-  pub walking-start : Full p sa sc off val → {cell : ℕ} → cell ≡ place (p .m) (p .ey) (p .ex) (p .ey) → Walking corner p sa sc off val e 0 (p .ex) (p .ey) cell (length e)
+module _ {lettered : Bool} {p : plans.Plan} {sa sc off val e : List ℕ} where
+  pub walking-start : Full p sa sc off val → {cell : ℕ} → cell ≡ place (p .m) (p .ey) (p .ex) (p .ey) → Walking lettered p sa sc off val e 0 (p .ex) (p .ey) cell (length e)
   walking-start fu ep = record {
     full = fu;
     i-le = omega arith;
     stand = record { end = omega arith; ends = (omega arith, omega arith); at = ep; fits = fu .fits };
     under = omega arith;
-    same = ok-all corner (p .k) (p .f) sa sc e (p .ex) (p .ey);
-    total = omega (arith, num-all corner (p .k) (p .f) sa sc e (p .ex) (p .ey));
+    same = ok-all lettered (p .k) (p .f) sa sc e (p .ex) (p .ey);
+    total = omega (arith, num-all lettered (p .k) (p .f) sa sc e (p .ex) (p .ey));
   }
 
-  module _ {acc x y cell i : ℕ} (w : Walking corner p sa sc off val e acc x y cell i) where
+  module _ {acc x y cell i : ℕ} (w : Walking lettered p sa sc off val e acc x y cell i) where
     pub last-in : 0 < i → i - 1 < length e
     last-in h = omega (arith, w .i-le)
 
@@ -181,27 +179,27 @@ module _ {corner : Bool} {p : plans.Plan} {sa sc off val e : List ℕ} where
     pub step-byte : {l : ℕ} → l < p .k → l * 8 < 2 ^ 64
     step-byte b = omega (arith, w .full .ready .slopes .most)
 
-    no-edge : ok corner (p .k) (p .f) sa sc e i x y ≡ false → refusal 5 ≡ reply (numberFor corner p sa sc e)
-    no-edge o = table-not corner p sa sc e (w .full .fits) (sym (w .same) ∙ o)
+    no-edge : ok lettered (p .k) (p .f) sa sc e i x y ≡ false → RankFor lettered p sa sc e NoEdge
+    no-edge o = sym (w .same) ∙ o
 
-    module _ (h : 0 < i) {l : ℕ} (q : l ≡ placeOf corner (getD e (i - 1) 0)) where
+    module _ (h : 0 < i) {l : ℕ} (q : l ≡ placeOf lettered (getD e (i - 1) 0)) where
       pos : (j : ℕ) → j < p .k → 1 ≤ getD sa j 0
       pos = pos-of (w .full .ready .slopes)
 
-      pub not-inside : wall (p .f) x y ≡ false → refusal 5 ≡ reply (numberFor corner p sa sc e)
-      not-inside o = no-edge (ok-out corner (p .k) (p .f) sa sc e pos i x y l h q (λ t. subst T o t))
+      pub not-inside : wall (p .f) x y ≡ false → RankFor lettered p sa sc e NoEdge
+      not-inside o = no-edge (ok-out lettered (p .k) (p .f) sa sc e pos i x y l h q (λ t. subst T o t))
 
       module _ (n : T (wall (p .f) x y)) where
-        pub not-letter : p .k ≤ l → refusal 5 ≡ reply (numberFor corner p sa sc e)
-        not-letter o = no-edge (ok-no-letter corner (p .k) (p .f) sa sc e pos i x y l h q n o)
+        pub not-letter : p .k ≤ l → RankFor lettered p sa sc e NoEdge
+        not-letter o = no-edge (ok-no-letter lettered (p .k) (p .f) sa sc e pos i x y l h q n o)
 
-        pub not-right : x < getD sa l 0 → refusal 5 ≡ reply (numberFor corner p sa sc e)
-        not-right o = no-edge (ok-left corner (p .k) (p .f) sa sc e pos i x y l h q n o)
+        pub not-right : x < getD sa l 0 → RankFor lettered p sa sc e NoEdge
+        not-right o = no-edge (ok-left lettered (p .k) (p .f) sa sc e pos i x y l h q n o)
 
-        pub not-up : getD sa l 0 ≤ x → y < getD sc l 0 → refusal 5 ≡ reply (numberFor corner p sa sc e)
-        not-up a o = no-edge (ok-under corner (p .k) (p .f) sa sc e pos i x y l h q n a o)
+        pub not-up : getD sa l 0 ≤ x → y < getD sc l 0 → RankFor lettered p sa sc e NoEdge
+        not-up a o = no-edge (ok-under lettered (p .k) (p .f) sa sc e pos i x y l h q n a o)
 
-        pub stepped : l < p .k → getD sa l 0 ≤ x → getD sc l 0 ≤ y → Stepped corner p sa sc off val e acc x y cell i l
+        pub stepped : l < p .k → getD sa l 0 ≤ x → getD sc l 0 ≤ y → Stepped lettered p sa sc off val e acc x y cell i l
         stepped b a c = record {
           fewer = omega arith;
           below = omega arith;
@@ -213,8 +211,8 @@ module _ {corner : Bool} {p : plans.Plan} {sa sc off val e : List ℕ} where
             i-le = omega (arith, w .i-le);
             stand = stand-back (w .full) (w .stand) px n l _ _ _ b refl refl refl a c;
             under = omega (arith, part, via-in (p .k) (p .f) sa sc x y l a c, w .under);
-            same = sym (ok-step corner (p .k) (p .f) sa sc e pos i x y l h q n b a c) ∙ w .same;
-            total = omega (arith, w .total, num-step corner (p .k) (p .f) sa sc e pos i x y l h q n a c);
+            same = sym (ok-step lettered (p .k) (p .f) sa sc e pos i x y l h q n b a c) ∙ w .same;
+            total = omega (arith, w .total, num-step lettered (p .k) (p .f) sa sc e pos i x y l h q n a c);
           };
         }
           where
@@ -232,11 +230,11 @@ module _ {corner : Bool} {p : plans.Plan} {sa sc off val e : List ℕ} where
     ends-fit = omega (arith, w .stand .end, w .stand .ends .0, w .full .ready .sizes .ex-le, w .full .ready .sizes .ey-le)
 
     module _ (h : i ≤ 0) where
-      pub not-start : 0 < x + y → refusal 5 ≡ reply (numberFor corner p sa sc e)
-      not-start o = no-edge (sym (ok-end corner (p .k) (p .f) sa sc e i x y h) ∙ ne-eqb (x + y) 0 (λ q. omega arith))
+      pub not-start : 0 < x + y → RankFor lettered p sa sc e NoEdge
+      not-start o = no-edge (sym (ok-end lettered (p .k) (p .f) sa sc e i x y h) ∙ ne-eqb (x + y) 0 (λ q. omega arith))
 
-      pub walking-end : x + y ≤ 0 → value acc ≡ reply (numberFor corner p sa sc e)
-      walking-end o =
-          table-number corner p sa sc e acc (w .full .fits)
-          (sym (w .same) ∙ sym (ok-end corner (p .k) (p .f) sa sc e i x y h) ∙ eq-eqb (x + y) 0 (omega arith))
-          (omega (arith, w .total, num-none corner (p .k) (p .f) sa sc e i x y h))
+      pub walking-end : x + y ≤ 0 → RankFor lettered p sa sc e (At acc)
+      walking-end o = (
+        sym (w .same) ∙ sym (ok-end lettered (p .k) (p .f) sa sc e i x y h) ∙ eq-eqb (x + y) 0 (omega arith),
+        omega (arith, w .total, num-none lettered (p .k) (p .f) sa sc e i x y h),
+      )

@@ -3,13 +3,17 @@
 --   stride-le                      an offset fits
 --   prepared-for, prepared-last    all that `fill` asks, for a size that has room and for the last one
 --   sizes-for                      bounds of the plan's numbers
+--   begun-at                       a table of at least so many cells, all of them 0
 use mathlib.Core.Path.{_≡_, refl}
 use mathlib.Core.List.{List}
 use Prim.Native.Nat.{ℕ, _≤_}
 use native.Mathlib.Omega.{arith}
+use lib.ListN.{length, replicate, length-replicate}
+use Rattle.job.proofs.Puts.{zeros-at}
 use Rattle.tables.specs.declared.Plan.{Plan}
 use Rattle.tables.specs.Table.{Offsets}
 use Rattle.tables.specs.Plans.{strideFor, cellsFor, SizesFor, Planned, PreparedFor}
+use Rattle.tables.specs.Filling.{Begun}
 use Rattle.tables.proofs.Prepare.{prepared}
 
 module _ {sa sc : List ℕ} {p : Plan} (pl : Planned sa sc p) where
@@ -26,3 +30,9 @@ module _ {sa sc : List ℕ} {p : Plan} (pl : Planned sa sc p) where
     -- the last size has room for every plan
     pub prepared-last : PreparedFor p sa sc off 3712
     prepared-last = prepared-for refl 3712 (sizes-for .cells)
+
+pub begun-at : {p : Plan} {sa sc off : List ℕ} {n : ℕ} → PreparedFor p sa sc off n → (size : ℕ) → n ≤ size → Begun p sa sc off (replicate size 0)
+begun-at {p} {sa} {sc} {off} {n} r size l = record { ready = more (length (replicate size 0)) (omega (arith, length-replicate {A = ℕ} size 0)); zero-at = zeros-at size }
+  where
+    more : (size : ℕ) → n ≤ size → PreparedFor p sa sc off size
+    more size l = record { sizes = r .sizes; slopes = r .slopes; offs = r .offs; fewer = r .fewer; room = omega (arith, r .room) }

@@ -77,7 +77,7 @@ end-out k f sa sc x y h = only-none (wall f x y) (spot x y) h
 -- ---- validity
 
 unfoldable pub ok : Bool → ℕ → ℕ → List ℕ → List ℕ → List ℕ → ℕ → ℕ → ℕ → Bool
-ok corner k f sa sc e i x y = valid (grid (stepsIn k f sa sc)) (wordTo (placeOf corner) e i) (endOf k f sa sc x y)
+ok lettered k f sa sc e i x y = valid (grid (stepsIn k f sa sc)) (wordTo (placeOf lettered) e i) (endOf k f sa sc x y)
 
 -- a start that is allowed is the only word of no letters
 none-left : (k f : ℕ) (sa sc : List ℕ) (b : Bool) (x y : ℕ) → valid (grid (stepsIn k f sa sc)) [] (onlyIf b (spot x y)) ≡ b && (eqb x 0 && eqb y 0)
@@ -85,56 +85,56 @@ unfolding valid
 none-left k f sa sc true x y = refl
 none-left k f sa sc false x y = refl
 
-module _ (corner : Bool) (k f : ℕ) (sa sc e : List ℕ) where
-  pub ok-all : (x y : ℕ) → ok corner k f sa sc e (length e) x y ≡ isEdge corner k f sa sc x y e
+module _ (lettered : Bool) (k f : ℕ) (sa sc e : List ℕ) where
+  pub ok-all : (x y : ℕ) → ok lettered k f sa sc e (length e) x y ≡ isEdge lettered k f sa sc x y e
   unfolding ok isEdge
-  ok-all x y = ap (λ (w : List ℕ). valid (grid (stepsIn k f sa sc)) w (endOf k f sa sc x y)) (word-all (placeOf corner) e)
+  ok-all x y = ap (λ (w : List ℕ). valid (grid (stepsIn k f sa sc)) w (endOf k f sa sc x y)) (word-all (placeOf lettered) e)
 
   module _ (i x y : ℕ) (h : i ≤ 0) where
-    ok-none : ok corner k f sa sc e i x y ≡ wall f x y && (eqb x 0 && eqb y 0)
+    ok-none : ok lettered k f sa sc e i x y ≡ wall f x y && (eqb x 0 && eqb y 0)
     unfolding ok
-    ok-none = ap (λ (w : List ℕ). valid (grid (stepsIn k f sa sc)) w (endOf k f sa sc x y)) (word-none (placeOf corner) e i h) ∙ none-left k f sa sc (wall f x y) x y
+    ok-none = ap (λ (w : List ℕ). valid (grid (stepsIn k f sa sc)) w (endOf k f sa sc x y)) (word-none (placeOf lettered) e i h) ∙ none-left k f sa sc (wall f x y) x y
 
-    ok-far : (x ≤ 0 → ⊥) → ok corner k f sa sc e i x y ≡ false
+    ok-far : (x ≤ 0 → ⊥) → ok lettered k f sa sc e i x y ≡ false
     ok-far n = ok-none ∙ rw (ne-eqb x 0 (λ q. n (omega arith))) (and-false (wall f x y))
 
-    ok-high : x ≤ 0 → (y ≤ 0 → ⊥) → ok corner k f sa sc e i x y ≡ false
+    ok-high : x ≤ 0 → (y ≤ 0 → ⊥) → ok lettered k f sa sc e i x y ≡ false
     ok-high z n = ok-none ∙ rw (ne-eqb y 0 (λ q. n (omega arith)), eq-eqb x 0 (omega arith)) (and-false (wall f x y))
 
-    ok-start : x ≡ 0 → y ≡ 0 → ok corner k f sa sc e i x y ≡ true
+    ok-start : x ≡ 0 → y ≡ 0 → ok lettered k f sa sc e i x y ≡ true
     ok-start z n = ok-none ∙ rw (z, n, is-true (wall f 0 0) (wall-start f)) refl
 
-    pub ok-end : eqb (x + y) 0 ≡ ok corner k f sa sc e i x y
+    pub ok-end : eqb (x + y) 0 ≡ ok lettered k f sa sc e i x y
     ok-end =
         elim (decLe x 0) [
           | yes z ↦ elim (decLe y 0) [ yes n ↦ eq-eqb (x + y) 0 (omega arith) ∙ sym (ok-start (omega arith) (omega arith)) | no n ↦ ne-eqb (x + y) 0 (λ q. omega arith) ∙ sym (ok-high z n) ]
           | no z ↦ ne-eqb (x + y) 0 (λ q. omega arith) ∙ sym (ok-far z)
         ]
 
-  module _ (pos : (i : ℕ) → i < k → 1 ≤ getD sa i 0) (i x y l : ℕ) (h : 0 < i) (q : l ≡ placeOf corner (getD e (i - 1) 0)) where
-    ok-cons : ok corner k f sa sc e i x y ≡ valid (grid (stepsIn k f sa sc)) (l ∷ wordTo (placeOf corner) e (i - 1)) (endOf k f sa sc x y)
+  module _ (pos : (i : ℕ) → i < k → 1 ≤ getD sa i 0) (i x y l : ℕ) (h : 0 < i) (q : l ≡ placeOf lettered (getD e (i - 1) 0)) where
+    ok-cons : ok lettered k f sa sc e i x y ≡ valid (grid (stepsIn k f sa sc)) (l ∷ wordTo (placeOf lettered) e (i - 1)) (endOf k f sa sc x y)
     unfolding ok
-    ok-cons = ap (λ (w : List ℕ). valid (grid (stepsIn k f sa sc)) w (endOf k f sa sc x y)) (word-cons (placeOf corner) e i l h q)
+    ok-cons = ap (λ (w : List ℕ). valid (grid (stepsIn k f sa sc)) w (endOf k f sa sc x y)) (word-cons (placeOf lettered) e i l h q)
 
-    pub ok-out : (T (wall f x y) → ⊥) → ok corner k f sa sc e i x y ≡ false
+    pub ok-out : (T (wall f x y) → ⊥) → ok lettered k f sa sc e i x y ≡ false
     ok-out o =
-        ok-cons ∙ ap (valid (grid (stepsIn k f sa sc)) (l ∷ wordTo (placeOf corner) e (i - 1))) (end-out k f sa sc x y o)
-        ∙ is-false (valid (grid (stepsIn k f sa sc)) (l ∷ wordTo (placeOf corner) e (i - 1)) none) (none-valid (grid (stepsIn k f sa sc)) (grid-lawful (stepsIn k f sa sc) (onward k f sa sc pos)) (l ∷ wordTo (placeOf corner) e (i - 1)))
+        ok-cons ∙ ap (valid (grid (stepsIn k f sa sc)) (l ∷ wordTo (placeOf lettered) e (i - 1))) (end-out k f sa sc x y o)
+        ∙ is-false (valid (grid (stepsIn k f sa sc)) (l ∷ wordTo (placeOf lettered) e (i - 1)) none) (none-valid (grid (stepsIn k f sa sc)) (grid-lawful (stepsIn k f sa sc) (onward k f sa sc pos)) (l ∷ wordTo (placeOf lettered) e (i - 1)))
 
     module _ (n : T (wall f x y)) where
-      ok-some : ok corner k f sa sc e i x y ≡ valid (grid (stepsIn k f sa sc)) (l ∷ wordTo (placeOf corner) e (i - 1)) (some (spot x y))
-      ok-some = ok-cons ∙ ap (valid (grid (stepsIn k f sa sc)) (l ∷ wordTo (placeOf corner) e (i - 1))) (end-in k f sa sc x y n)
+      ok-some : ok lettered k f sa sc e i x y ≡ valid (grid (stepsIn k f sa sc)) (l ∷ wordTo (placeOf lettered) e (i - 1)) (some (spot x y))
+      ok-some = ok-cons ∙ ap (valid (grid (stepsIn k f sa sc)) (l ∷ wordTo (placeOf lettered) e (i - 1))) (end-in k f sa sc x y n)
 
-      pub ok-no-letter : k ≤ l → ok corner k f sa sc e i x y ≡ false
-      ok-no-letter o = ok-some ∙ valid-no-letter (grid (stepsIn k f sa sc)) l (wordTo (placeOf corner) e (i - 1)) (spot x y) o
+      pub ok-no-letter : k ≤ l → ok lettered k f sa sc e i x y ≡ false
+      ok-no-letter o = ok-some ∙ valid-no-letter (grid (stepsIn k f sa sc)) l (wordTo (placeOf lettered) e (i - 1)) (spot x y) o
 
-      pub ok-left : x < getD sa l 0 → ok corner k f sa sc e i x y ≡ false
-      ok-left o = ok-some ∙ valid-stop (grid (stepsIn k f sa sc)) l (wordTo (placeOf corner) e (i - 1)) (spot x y) (back-left k f sa sc x y l o)
+      pub ok-left : x < getD sa l 0 → ok lettered k f sa sc e i x y ≡ false
+      ok-left o = ok-some ∙ valid-stop (grid (stepsIn k f sa sc)) l (wordTo (placeOf lettered) e (i - 1)) (spot x y) (back-left k f sa sc x y l o)
 
-      pub ok-under : getD sa l 0 ≤ x → y < getD sc l 0 → ok corner k f sa sc e i x y ≡ false
-      ok-under a o = ok-some ∙ valid-stop (grid (stepsIn k f sa sc)) l (wordTo (placeOf corner) e (i - 1)) (spot x y) (back-under k f sa sc x y l a o)
+      pub ok-under : getD sa l 0 ≤ x → y < getD sc l 0 → ok lettered k f sa sc e i x y ≡ false
+      ok-under a o = ok-some ∙ valid-stop (grid (stepsIn k f sa sc)) l (wordTo (placeOf lettered) e (i - 1)) (spot x y) (back-under k f sa sc x y l a o)
 
-      pub ok-step : l < k → getD sa l 0 ≤ x → getD sc l 0 ≤ y → ok corner k f sa sc e i x y ≡ ok corner k f sa sc e (i - 1) (x - getD sa l 0) (y - getD sc l 0)
+      pub ok-step : l < k → getD sa l 0 ≤ x → getD sc l 0 ≤ y → ok lettered k f sa sc e i x y ≡ ok lettered k f sa sc e (i - 1) (x - getD sa l 0) (y - getD sc l 0)
       unfolding ok valid
       ok-step b a c =
-          ok-some ∙ ap₂ _&&_ (is-true (ltb l k) (lt→ltb l k b)) (ap (valid (grid (stepsIn k f sa sc)) (wordTo (placeOf corner) e (i - 1))) (back-is k f sa sc x y l a c))
+          ok-some ∙ ap₂ _&&_ (is-true (ltb l k) (lt→ltb l k b)) (ap (valid (grid (stepsIn k f sa sc)) (wordTo (placeOf lettered) e (i - 1))) (back-is k f sa sc x y l a c))

@@ -24,15 +24,15 @@ use Rattle.backward.specs.Shears.{Slid}
 use Rattle.backward.proofs.Carried.{Barren, barren-count}
 use Rattle.rules.specs.Points.{leℤ}
 use Rattle.rules.specs.Jobs as rules
-use Rattle.rules.specs.Jobs.{Pair, stepsOf, endOf}
+use Rattle.rules.specs.Jobs.{Pair, stepsOf, endOf, pairAt}
 use Rattle.rules.specs.Jobs.Job.{north-east, dyck, delannoy, schroder, motzkin, directed}
 use Rattle.rules.specs.Valid.{place, Valid}
-use Rattle.rules.specs.Counts.{W, countOf, pairAt}
+use Rattle.rules.specs.Counts.{countOf}
 use Rattle.rules.specs.Shear.{Is, lift, gridOf, Slope}
 use Rattle.rules.proofs.Signed.{is-shift, is-up, is-lift, is-apart}
-use Rattle.rules.proofs.Sheared.{Shear, some-end, walks-word}
+use Rattle.rules.proofs.Sheared.{some-end, walks-word}
 use Rattle.rules.specs.Ranges.{Small}
-use Rattle.rules.proofs.Slopes.{W-none, slope-shear}
+use Rattle.rules.proofs.Slopes.{W-none, slope-shear, slope-counted}
 use Rattle.job.specs.declared.Job.{Job}
 use Rattle.job.specs.Stands.{Directed, Stands}
 use Rattle.job.specs.Stands.Stands.{as-north-east, as-dyck, as-delannoy, as-schroder, as-motzkin, as-open, as-fenced}
@@ -131,7 +131,7 @@ steep (negsuc a) p e l = le→leb a 2 (omega arith)
 
 module _ (j : Job) (fenced : Bool) (m : ℤ) (pairs : List Pair) (d : Directed j m pairs) where
   abbrev J : rules.Job
-  J = directed fenced (j .n) m pairs
+  J = directed fenced (j .n) m 0 pairs
 
   pub small : Small pairs
   small = record {
@@ -144,25 +144,27 @@ module _ (j : Job) (fenced : Bool) (m : ℤ) (pairs : List Pair) (d : Directed j
   below t e = is-shift m (j .m) 128 0 (3 * j .n + suc t) (d .m-is) (omega arith)
 
   no-edge : (t : ℕ) → Is m 0 (3 * j .n + suc t) → (e : List ℕ) → Valid J e → ⊥
+  unfolding Valid
   no-edge t h e v =
-      let (q, a) = some-end J (gridOf J) (W fenced pairs) Slope (slope-shear fenced pairs small (j .n) m) e v in
-      is-apart m (q .y) (3 * j .n) t (is-shift m (q .y) (3 * q .x) (q .y) (3 * j .n) (a .up) (omega (arith, a .across))) h
+      let (q, a) = some-end J (gridOf J) (Slope 0) (slope-shear fenced 0 pairs small) e v in
+      is-apart m (q .y) 0 (3 * j .n) t (is-shift m (q .y + 0) (3 * q .x) (q .y + 0) (3 * j .n) (a .up) (omega (arith, a .across))) h
 
   sunk-shaped : (r : Shape) → r .state ≡ 1 → j .m + 3 * j .n < 128 → Shaped J r
-  unfolding countOf
+  unfolding countOf Valid
   sunk-shaped r e l =
       let t : ℕ = 127 - (j .m + 3 * j .n) in
       let h : Is m 0 (3 * j .n + suc t) = below t (omega arith) in
-      nothing e (W-none fenced pairs small (j .n) t m h) (no-edge t h)
+      nothing e (W-none fenced 0 pairs small (j .n) t m h) (no-edge t h)
 
   -- nothing leads to an end that no step leads to
   beyond-shaped : (r : Shape) (q : Spot) → r .state ≡ 1 → Sits J q → Beyond (gridOf J) q → Shaped J r
   unfolding countOf Valid paths
   beyond-shaped r q e s o =
-      let H : Shear J (gridOf J) (W fenced pairs) Slope = slope-shear fenced pairs small (j .n) m in
+      let H = slope-shear fenced 0 pairs small in
+      let K = slope-counted fenced 0 pairs small in
       let b : Barren (grid (gridOf J)) (enter (grid (gridOf J)) (way (gridOf J)) q) = beyond-barren (gridOf J) q o in
-      nothing e (H .agrees (endOf J) q s ∙ barren-count (grid (gridOf J)) (enter (grid (gridOf J)) (way (gridOf J)) q) b)
-      (λ z v. b (reverse (map (λ x. place x (stepsOf J)) z)) (subst T (walks-word J (gridOf J) (W fenced pairs) Slope H q s z) v))
+      nothing e (K .agrees (endOf J) q s ∙ barren-count (grid (gridOf J)) (enter (grid (gridOf J)) (way (gridOf J)) q) b)
+      (λ z v. b (reverse (map (λ x. place x (stepsOf J)) z)) (subst T (walks-word J (gridOf J) (Slope 0) H q s z) v))
 
   module _ (s : Shape) (f : ℕ) (e : f ≡ pick fenced 3 0) (w : Laid j f s) where
     lifted : (i : ℕ) → i < j .k → getD (j .b) i 0 + 3 * getD (j .a) i 0 - 128 ≡ gridOf J .c i
@@ -179,14 +181,14 @@ module _ (j : Job) (fenced : Bool) (m : ℤ) (pairs : List Pair) (d : Directed j
       right = λ i h. w .steps .right i (omega (arith, w .k-is)) ∙ d .a-is i (omega (arith, w .k-is));
       up = λ i h. omega (arith, w .steps .up i (omega (arith, w .k-is)), lifted i (omega (arith, w .k-is)));
       wall = λ x y.
-          let z : y ≡ y + 0 * x = omega arith in
+          let z : y ≡ y + 0 * x + 0 = omega arith in
           ap (λ (n : ℕ). wall n x y) (w .f-is ∙ e) ∙ fence-is (pick fenced 3 0) x y (slope-below fenced) ∙ ap (leb (pick fenced 3 0 * x)) z;
     }
 
     sits : 128 ≤ j .m + 3 * j .n → Sits J (endAt s)
     sits l = record {
       across = sym (w .ex-is);
-      up = is-shift m (j .m) 128 (s .ey) (3 * s .ex) (d .m-is) (omega (arith, w .ex-is, w .ey-is));
+      up = is-shift m (j .m) 128 (s .ey + 0) (3 * s .ex) (d .m-is) (omega (arith, w .ex-is, w .ey-is));
     }
 
     lowered-shaped : (r : Shape) → s .state ≡ 0 → Lowered s r → Shaped J r
@@ -221,8 +223,8 @@ sound-ranged j s l = go (s .job) (s .stands) (s .grids)
     go (delannoy n m) (as-delannoy e v) g = absurd (omega arith)
     go (schroder n) x g = absurd g
     go (motzkin n) x g = absurd g
-    go (directed f n m p) (as-open e d) g = ranged d
-    go (directed f n m p) (as-fenced e d) g = ranged d
+    go (directed f n m z p) (as-open e d) g = ranged d
+    go (directed f n m z p) (as-fenced e d) g = ranged d
 
 module _ (j : Job) (s : Shape) (l : 6 ≤ j .family) where
   pub shaped-6 : j .family ≡ 6 → Chosen j 0 s → ShapedFor j s
@@ -231,8 +233,8 @@ module _ (j : Job) (s : Shape) (l : 6 ≤ j .family) where
   shaped-6 h w (delannoy n m) (as-delannoy e v) = absurd (omega arith)
   shaped-6 h w (schroder n) (as-schroder e v) = absurd (omega arith)
   shaped-6 h w (motzkin n) (as-motzkin e v) = absurd (omega arith)
-  shaped-6 h w (directed f n m p) (as-open e d) = directed-shaped j false m p d s 0 refl w
-  shaped-6 h w (directed f n m p) (as-fenced e v) = absurd (omega arith)
+  shaped-6 h w (directed f n m z p) (as-open e d) = directed-shaped j false m p d s 0 refl w
+  shaped-6 h w (directed f n m z p) (as-fenced e v) = absurd (omega arith)
 
   pub shaped-7 : (j .family ≡ 6 → ⊥) → Chosen j 3 s → ShapedFor j s
   shaped-7 h w (north-east n m) (as-north-east e v) = absurd (omega arith)
@@ -240,5 +242,5 @@ module _ (j : Job) (s : Shape) (l : 6 ≤ j .family) where
   shaped-7 h w (delannoy n m) (as-delannoy e v) = absurd (omega arith)
   shaped-7 h w (schroder n) (as-schroder e v) = absurd (omega arith)
   shaped-7 h w (motzkin n) (as-motzkin e v) = absurd (omega arith)
-  shaped-7 h w (directed f n m p) (as-open e v) = absurd (h e)
-  shaped-7 h w (directed f n m p) (as-fenced e d) = directed-shaped j true m p d s 3 refl w
+  shaped-7 h w (directed f n m z p) (as-open e v) = absurd (h e)
+  shaped-7 h w (directed f n m z p) (as-fenced e d) = directed-shaped j true m p d s 3 refl w

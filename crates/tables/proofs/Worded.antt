@@ -24,23 +24,23 @@ use Rattle.backward.specs.Grid.{Spot, Steps, grid, way, Onward, paths}
 use Rattle.backward.proofs.Backward.{letter, rest, unrank-built}
 use Rattle.backward.proofs.Grids.{grid-lawful}
 use Rattle.backward.proofs.Carried.{valid-carried, count-carried, rank-carried, unrank-carried}
-use Rattle.rules.specs.Points.{origin}
+use Rattle.rules.specs.Valid as valids
 use Rattle.rules.specs.Jobs as rules
 use Rattle.rules.specs.Jobs.{Pair, one, numbered, stepsOf}
 use Rattle.rules.specs.Jobs.Job.{north-east, dyck, delannoy, schroder, motzkin, directed}
-use Rattle.rules.specs.Valid.{place, at, walks}
+use Rattle.rules.specs.Valid.{place, at}
 use Rattle.rules.specs.Counts.{L, Dl, W as Wℤ, countOf}
 use Rattle.rules.specs.Numbers.{raised}
 use Rattle.rules.specs.Numbers as numbers
-use Rattle.rules.specs.Shear.{gridOf, Corner, Slope}
+use Rattle.rules.specs.Shear.{gridOf, Plain, Slope}
 use Rattle.rules.proofs.Letters.{map-reverse}
 use Rattle.rules.proofs.Sheared.{walks-word, number-word, edge-word}
-use Rattle.rules.proofs.Corners.{north-east-shear, delannoy-shear}
-use Rattle.rules.proofs.Slopes.{digit-at, digit-place, slope-shear}
+use Rattle.rules.proofs.Plains.{north-east-shear, delannoy-shear, north-east-counted, delannoy-counted}
+use Rattle.rules.proofs.Slopes.{digit-at, digit-place, slope-shear, slope-counted}
 use Rattle.rules.specs.Ranges.{InRange}
 use Rattle.letters.specs.Letters.{placeOf, glyphOf}
 use Rattle.tables.specs.Edges as edges
-use Rattle.tables.specs.Shapes.{Grids, isCorner, Sits, stepsAt, endAt, Fits}
+use Rattle.tables.specs.Shapes.{Grids, isLettered, Sits, stepsAt, endAt, Fits}
 use Rattle.tables.specs.declared.Shape.{Shape}
 use Rattle.tables.proofs.Laws.{onward}
 use Rattle.tables.proofs.Grounds.{end-count, Walked, walked}
@@ -118,16 +118,16 @@ digit-places ps b few = go (decLt b 49) (decLt 56 b) (decLt (b - 49) (length ps)
         rw (le-ltb b 49 (omega arith), le-ltb 56 b (omega arith)) (same (sym (digit-place one ps (b - 49) k) ∙ ap (λ (x : ℕ). place x (numbered one ps)) e))
     go (no l) (no h) (no k) = rw (le-ltb b 49 (omega arith), le-ltb 56 b (omega arith)) (both (omega arith) (none-there (λ g. omega arith)))
 
-places : (J : rules.Job) → Grids J → InRange J → (b : ℕ) → Agree (gridOf J .k) (placeOf (isCorner J) b) (place b (stepsOf J))
+places : (J : rules.Job) → Grids J → InRange J → (b : ℕ) → Agree (gridOf J .k) (placeOf (isLettered J) b) (place b (stepsOf J))
 unfolding placeOf place
 places (north-east n m) g r b = two-places (eqb b 78) (eqb b 69) (eqb b 68)
 places (dyck n) g r b = absurd g
 places (delannoy n m) g r b = three-places (eqb b 78) (eqb b 69) (eqb b 68)
 places (schroder n) g r b = absurd g
 places (motzkin n) g r b = absurd g
-places (directed f n m p) g r b = digit-places p b (r .few)
+places (directed f n m z p) g r b = digit-places p b (r .few)
 
-glyphs : (J : rules.Job) → Grids J → InRange J → (i : ℕ) → i < gridOf J .k → glyphOf (isCorner J) i ≡ at (stepsOf J) i .letter
+glyphs : (J : rules.Job) → Grids J → InRange J → (i : ℕ) → i < gridOf J .k → glyphOf (isLettered J) i ≡ at (stepsOf J) i .letter
 unfolding glyphOf
 glyphs (north-east n m) g r zero l = refl
 glyphs (north-east n m) g r (suc zero) l = refl
@@ -139,7 +139,7 @@ glyphs (delannoy n m) g r (suc (suc zero)) l = refl
 glyphs (delannoy n m) g r (suc (suc (suc i))) l = absurd (omega arith)
 glyphs (schroder n) g r i l = absurd g
 glyphs (motzkin n) g r i l = absurd g
-glyphs (directed f n m p) g r i l = omega (arith, digit-at one p i l .letter)
+glyphs (directed f n m z p) g r i l = omega (arith, digit-at one p i l .letter)
 
 -- ---- a job's edges by its own grid
 
@@ -149,39 +149,39 @@ onward-of (dyck n) g r = absurd g
 onward-of (delannoy n m) g r = delannoy-shear n m .onward
 onward-of (schroder n) g r = absurd g
 onward-of (motzkin n) g r = absurd g
-onward-of (directed f n m p) g r = slope-shear f p r n m .onward
+onward-of (directed f n m z p) g r = slope-shear f z p r .onward
 
 walks-by : (J : rules.Job) → InRange J → (q : Spot) → Sits J q → (e : List ℕ)
-    → walks J origin e ≡ valid (grid (gridOf J)) (reverse (map (λ b. place b (stepsOf J)) e)) (enter (grid (gridOf J)) (way (gridOf J)) q)
-walks-by (north-east n m) r q s e = walks-word (north-east n m) (gridOf (north-east n m)) (raised L) Corner (north-east-shear n m) q s e
+    → valids.isEdge J e ≡ valid (grid (gridOf J)) (reverse (map (λ b. place b (stepsOf J)) e)) (enter (grid (gridOf J)) (way (gridOf J)) q)
+walks-by (north-east n m) r q s e = walks-word (north-east n m) (gridOf (north-east n m)) Plain (north-east-shear n m) q s e
 walks-by (dyck n) r q s e = absurd s
-walks-by (delannoy n m) r q s e = walks-word (delannoy n m) (gridOf (delannoy n m)) (raised Dl) Corner (delannoy-shear n m) q s e
+walks-by (delannoy n m) r q s e = walks-word (delannoy n m) (gridOf (delannoy n m)) Plain (delannoy-shear n m) q s e
 walks-by (schroder n) r q s e = absurd s
 walks-by (motzkin n) r q s e = absurd s
-walks-by (directed f n m p) r q s e = walks-word (directed f n m p) (gridOf (directed f n m p)) (Wℤ f p) Slope (slope-shear f p r n m) q s e
+walks-by (directed f n m z p) r q s e = walks-word (directed f n m z p) (gridOf (directed f n m z p)) (Slope z) (slope-shear f z p r) q s e
 
-number-by : (J : rules.Job) → InRange J → (q : Spot) → Sits J q → (e : List ℕ) → T (walks J origin e)
+number-by : (J : rules.Job) → InRange J → (q : Spot) → Sits J q → (e : List ℕ) → T (valids.isEdge J e)
     → numbers.numberOf J e ≡ rank (grid (gridOf J)) (reverse (map (λ b. place b (stepsOf J)) e)) (enter (grid (gridOf J)) (way (gridOf J)) q)
 unfolding numbers.numberOf
-number-by (north-east n m) r q s e t = number-word (north-east n m) (gridOf (north-east n m)) (raised L) Corner (north-east-shear n m) q s e t
+number-by (north-east n m) r q s e t = number-word (north-east n m) (gridOf (north-east n m)) Plain (north-east-shear n m) (raised L) (north-east-counted n m) q s e t
 number-by (dyck n) r q s e t = absurd s
-number-by (delannoy n m) r q s e t = number-word (delannoy n m) (gridOf (delannoy n m)) (raised Dl) Corner (delannoy-shear n m) q s e t
+number-by (delannoy n m) r q s e t = number-word (delannoy n m) (gridOf (delannoy n m)) Plain (delannoy-shear n m) (raised Dl) (delannoy-counted n m) q s e t
 number-by (schroder n) r q s e t = absurd s
 number-by (motzkin n) r q s e t = absurd s
-number-by (directed f n m p) r q s e t = number-word (directed f n m p) (gridOf (directed f n m p)) (Wℤ f p) Slope (slope-shear f p r n m) q s e t
+number-by (directed f n m z p) r q s e t = number-word (directed f n m z p) (gridOf (directed f n m z p)) (Slope z) (slope-shear f z p r) (Wℤ f z p) (slope-counted f z p r) q s e t
 
-corner-x : (n m : ℕ) (q : Spot) → Corner (record { x = n; y = pos m }) q → q .x ≤ n + m
-corner-x n m q c = let e : m ≡ q .y = cc in omega (arith, c .across)
+plain-x : (n m : ℕ) (q : Spot) → Plain (record { x = n; y = pos m }) q → q .x ≤ n + m
+plain-x n m q c = let e : m ≡ q .y = cc in omega (arith, c .across)
 
 edge-by : (J : rules.Job) → InRange J → (q : Spot) → Sits J q → (n : ℕ) → n < paths (gridOf J) q
     → numbers.edgeOf J n ≡ map (λ i. at (stepsOf J) i .letter) (reverse (unrank (grid (gridOf J)) (enter (grid (gridOf J)) (way (gridOf J)) q) n))
 unfolding numbers.edgeOf
-edge-by (north-east n m) r q s x l = edge-word (north-east n m) (gridOf (north-east n m)) (raised L) Corner (north-east-shear n m) q s (n + m) x (corner-x n m q s) l
+edge-by (north-east n m) r q s x l = edge-word (north-east n m) (gridOf (north-east n m)) Plain (north-east-shear n m) (raised L) (north-east-counted n m) q s (n + m) x (plain-x n m q s) l
 edge-by (dyck n) r q s x l = absurd s
-edge-by (delannoy n m) r q s x l = edge-word (delannoy n m) (gridOf (delannoy n m)) (raised Dl) Corner (delannoy-shear n m) q s (n + m) x (corner-x n m q s) l
+edge-by (delannoy n m) r q s x l = edge-word (delannoy n m) (gridOf (delannoy n m)) Plain (delannoy-shear n m) (raised Dl) (delannoy-counted n m) q s (n + m) x (plain-x n m q s) l
 edge-by (schroder n) r q s x l = absurd s
 edge-by (motzkin n) r q s x l = absurd s
-edge-by (directed f n m p) r q s x l = edge-word (directed f n m p) (gridOf (directed f n m p)) (Wℤ f p) Slope (slope-shear f p r n m) q s n x (omega (arith, s .across)) l
+edge-by (directed f n m z p) r q s x l = edge-word (directed f n m z p) (gridOf (directed f n m z p)) (Slope z) (slope-shear f z p r) (Wℤ f z p) (slope-counted f z p r) q s n x (omega (arith, s .across)) l
 
 -- ---- a job's edges by the grid of its shape
 
@@ -209,40 +209,40 @@ module _ (J : rules.Job) (s : Shape) (g : Grids J) (r : InRange J) (f : Fits J s
   shape-lawful = grid-lawful (stepsAt s) (onward (s .k) (s .f) (s .sa) (s .sc) (λ i l. rw (w .right i l) (onward-of J g r .ahead i (omega (arith, w .many)))))
 
   -- the code's word of an edge and the job's
-  word-valid : (e : List ℕ) → valid (grid G) (reverse (map (placeOf (isCorner J)) e)) ends ≡ valid (grid G) (reverse (map (λ b. place b (stepsOf J)) e)) ends
+  word-valid : (e : List ℕ) → valid (grid G) (reverse (map (placeOf (isLettered J)) e)) ends ≡ valid (grid G) (reverse (map (λ b. place b (stepsOf J)) e)) ends
   word-valid e =
-      ap (λ (u : List ℕ). valid (grid G) u ends) (map-reverse (placeOf (isCorner J)) e)
-      ∙ valid-map (grid G) (placeOf (isCorner J)) (λ b. place b (stepsOf J)) (places J g r) (reverse e) ends
+      ap (λ (u : List ℕ). valid (grid G) u ends) (map-reverse (placeOf (isLettered J)) e)
+      ∙ valid-map (grid G) (placeOf (isLettered J)) (λ b. place b (stepsOf J)) (places J g r) (reverse e) ends
       ∙ sym (ap (λ (u : List ℕ). valid (grid G) u ends) (map-reverse (λ b. place b (stepsOf J)) e))
 
   same-valid : (u : List ℕ) → valid (grid H) u ends-there ≡ valid (grid G) u ends
   same-valid u = valid-carried (grid H) (grid G) (w .At) (w .carries) u ends-there ends (w .led)
 
-  pub shape-edge : (e : List ℕ) → edges.isEdge (isCorner J) (s .k) (s .f) (s .sa) (s .sc) (s .ex) (s .ey) e ≡ walks J origin e
+  pub shape-edge : (e : List ℕ) → edges.isEdge (isLettered J) (s .k) (s .f) (s .sa) (s .sc) (s .ex) (s .ey) e ≡ valids.isEdge J e
   unfolding edges.isEdge
-  shape-edge e = same-valid (reverse (map (placeOf (isCorner J)) e)) ∙ word-valid e ∙ sym (walks-by J r (f .end) (f .sits) e)
+  shape-edge e = same-valid (reverse (map (placeOf (isLettered J)) e)) ∙ word-valid e ∙ sym (walks-by J r (f .end) (f .sits) e)
 
-  pub shape-number : (e : List ℕ) → T (walks J origin e) → edges.numberOf (isCorner J) (s .k) (s .f) (s .sa) (s .sc) (s .ex) (s .ey) e ≡ numbers.numberOf J e
+  pub shape-number : (e : List ℕ) → T (valids.isEdge J e) → edges.numberOf (isLettered J) (s .k) (s .f) (s .sa) (s .sc) (s .ex) (s .ey) e ≡ numbers.numberOf J e
   unfolding edges.numberOf
   shape-number e t =
-      let v : T (valid (grid G) (reverse (map (placeOf (isCorner J)) e)) ends) = subst T (walks-by J r (f .end) (f .sits) e ∙ sym (word-valid e)) t in
-      rank-carried (grid H) (grid G) (w .At) (w .carries) shape-lawful job-lawful (reverse (map (placeOf (isCorner J)) e)) ends-there ends (w .led)
-      (subst T (sym (same-valid (reverse (map (placeOf (isCorner J)) e)))) v)
-      ∙ ap (λ (x : List ℕ). rank (grid G) x ends) (map-reverse (placeOf (isCorner J)) e)
-      ∙ rank-map (grid G) (placeOf (isCorner J)) (λ b. place b (stepsOf J)) (places J g r) job-lawful (reverse e) ends
-      (subst (λ (x : List ℕ). T (valid (grid G) x ends)) (map-reverse (placeOf (isCorner J)) e) v)
+      let v : T (valid (grid G) (reverse (map (placeOf (isLettered J)) e)) ends) = subst T (walks-by J r (f .end) (f .sits) e ∙ sym (word-valid e)) t in
+      rank-carried (grid H) (grid G) (w .At) (w .carries) shape-lawful job-lawful (reverse (map (placeOf (isLettered J)) e)) ends-there ends (w .led)
+      (subst T (sym (same-valid (reverse (map (placeOf (isLettered J)) e)))) v)
+      ∙ ap (λ (x : List ℕ). rank (grid G) x ends) (map-reverse (placeOf (isLettered J)) e)
+      ∙ rank-map (grid G) (placeOf (isLettered J)) (λ b. place b (stepsOf J)) (places J g r) job-lawful (reverse e) ends
+      (subst (λ (x : List ℕ). T (valid (grid G) x ends)) (map-reverse (placeOf (isLettered J)) e) v)
       ∙ sym (ap (λ (x : List ℕ). rank (grid G) x ends) (map-reverse (λ b. place b (stepsOf J)) e))
       ∙ sym (number-by J r (f .end) (f .sits) e t)
 
-  pub shape-spells : (n : ℕ) → n < countOf J → edges.edgeOf (isCorner J) (s .k) (s .f) (s .sa) (s .sc) (s .ex) (s .ey) n ≡ numbers.edgeOf J n
+  pub shape-spells : (n : ℕ) → n < countOf J → edges.edgeOf (isLettered J) (s .k) (s .f) (s .sa) (s .sc) (s .ex) (s .ey) n ≡ numbers.edgeOf J n
   unfolding edges.edgeOf paths
   shape-spells n l =
       let h : n < paths G (f .end) = rw (end-count J r (f .end) (f .sits)) at l in
       let c : n < count (grid H) ends-there = rw (count-carried (grid H) (grid G) (w .At) (w .carries) ends-there ends (w .led)) h in
       let b = unrank-built (grid G) job-lawful ends n h in
-      ap (λ (x : List ℕ). map (glyphOf (isCorner J)) (reverse x))
+      ap (λ (x : List ℕ). map (glyphOf (isLettered J)) (reverse x))
       (unrank-carried (grid H) (grid G) (w .At) (w .carries) shape-lawful job-lawful ends-there ends (w .led) n c)
-      ∙ sym (map-reverse (glyphOf (isCorner J)) (unrank (grid G) ends n))
-      ∙ ap reverse (map-letters (grid G) job-lawful (glyphOf (isCorner J)) (λ i. at (stepsOf J) i .letter) (glyphs J g r) (unrank (grid G) ends n) ends (b .is))
+      ∙ sym (map-reverse (glyphOf (isLettered J)) (unrank (grid G) ends n))
+      ∙ ap reverse (map-letters (grid G) job-lawful (glyphOf (isLettered J)) (λ i. at (stepsOf J) i .letter) (glyphs J g r) (unrank (grid G) ends n) ends (b .is))
       ∙ map-reverse (λ i. at (stepsOf J) i .letter) (unrank (grid G) ends n)
       ∙ sym (edge-by J r (f .end) (f .sits) n h)

@@ -25,13 +25,13 @@ abbrev pub endOf : ℕ → ℕ → List ℕ → List ℕ → ℕ → ℕ → Opt
 endOf k f sa sc x y = enter (grid (stepsIn k f sa sc)) (way (stepsIn k f sa sc)) (spot x y)
 
 unfoldable pub isEdge : Bool → ℕ → ℕ → List ℕ → List ℕ → ℕ → ℕ → List ℕ → Bool
-isEdge corner k f sa sc x y e = valid (grid (stepsIn k f sa sc)) (wordOf corner e) (endOf k f sa sc x y)
+isEdge lettered k f sa sc x y e = valid (grid (stepsIn k f sa sc)) (wordOf lettered e) (endOf k f sa sc x y)
 
 unfoldable pub numberOf : Bool → ℕ → ℕ → List ℕ → List ℕ → ℕ → ℕ → List ℕ → ℕ
-numberOf corner k f sa sc x y e = rank (grid (stepsIn k f sa sc)) (wordOf corner e) (endOf k f sa sc x y)
+numberOf lettered k f sa sc x y e = rank (grid (stepsIn k f sa sc)) (wordOf lettered e) (endOf k f sa sc x y)
 
 unfoldable pub edgeOf : Bool → ℕ → ℕ → List ℕ → List ℕ → ℕ → ℕ → ℕ → List ℕ
-edgeOf corner k f sa sc x y r = map (glyphOf corner) (reverse (unrank (grid (stepsIn k f sa sc)) (endOf k f sa sc x y) r))
+edgeOf lettered k f sa sc x y r = map (glyphOf lettered) (reverse (unrank (grid (stepsIn k f sa sc)) (endOf k f sa sc x y) r))
 
 pub record Reads (k f : ℕ) (sa sc off val : List ℕ) (x y p : ℕ) : Type 0 where
   pub most : k ≤ 8

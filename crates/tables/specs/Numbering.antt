@@ -1,17 +1,18 @@
--- The number of an edge by the table: refusals 4 and 5 in their order.
+-- The numbers of a list of edges by the table: refusal 4, or the numbers up to the first string that is no edge.
 --
---   tableNumber    the answer for the edge e to (ex, ey)
+--   tableRanks    the answer for the edges es to (ex, ey)
 use mathlib.Core.Bool.{Bool}
 use mathlib.Core.List.{List}
 use Prim.Native.Nat.{ℕ}
 use lib.Dec.{leb}
 use Rattle.rules.specs.Refusals.{Answer, check}
-use Rattle.rules.specs.Refusals.Refusal.{over, not-an-edge}
+use Rattle.rules.specs.Refusals.Refusal.{over}
 use Rattle.rules.specs.Refusals.Answer.{accepted}
 use Rattle.rules.specs.Answers.{most}
+use Rattle.lines.specs.Ranks.{frontBy}
 use Rattle.tables.specs.Form.{W}
 use Rattle.tables.specs.Edges.{isEdge, numberOf}
 
-unfoldable pub tableNumber : Bool → ℕ → ℕ → List ℕ → List ℕ → ℕ → ℕ → List ℕ → Answer ℕ
-tableNumber corner k f sa sc ex ey e =
-    check (leb (W k f sa sc ex ey) most) over (check (isEdge corner k f sa sc ex ey e) not-an-edge (accepted (numberOf corner k f sa sc ex ey e)))
+unfoldable pub tableRanks : Bool → ℕ → ℕ → List ℕ → List ℕ → ℕ → ℕ → List (List ℕ) → Answer (List ℕ)
+tableRanks lettered k f sa sc ex ey es =
+    check (leb (W k f sa sc ex ey) most) over (accepted (frontBy (isEdge lettered k f sa sc ex ey) (numberOf lettered k f sa sc ex ey) es))

@@ -10,19 +10,22 @@
 --   SpansFor p starts stops           where the heights that matter of the plan's columns begin, and end
 --   walksFor p sa sc                  how many walks lead to the end
 --   countFor p sa sc                  the count by a plan
---   numberFor corner p sa sc e        the number of the edge e, written N E D where corner is true; validFor, rankFor: whether it is one, and its number if so
---   edgeFor corner p sa sc r          the edge of the number r; ListsFor, BuildsFor: those of the numbers ns written, and those or refusal 4 or 6
+--   validFor, rankFor lettered p sa sc e    whether e is an edge, written N E D where lettered is true, and its number if so; RankFor: r says which
+--   NumbersFor lettered p sa sc es ..    the numbers of the edges es written, up to the first that is none, or refusal 4
+--   edgeFor lettered p sa sc r          the edge of the number r; ListsFor, BuildsFor: those of the numbers ns written, and those or refusal 4 or 6
 --   RoomFor ns steps ends             there is room for the edges of the numbers ns
 use mathlib.Core.Path.{_≡_}
 use mathlib.Core.Bool.{Bool}
 use mathlib.Core.List.{List}
 use Prim.Native.Nat.{ℕ, _+_, _*_, _≤_}
 use lib.ListN.{length}
-use Rattle.rules.specs.Refusals.{Answer}
 use Rattle.rules.specs.Refusals.Answer.{accepted}
 use Rattle.job.specs.declared.Built.{Built}
 use Rattle.job.specs.declared.Built.the-variants.{Length}
+use Rattle.lines.specs.declared.Rank.{Rank}
+use Rattle.lines.specs.declared.Ranked.{Ranked}
 use Rattle.lines.specs.Lines.{lined, LinedAs, Room}
+use Rattle.lines.specs.Ranks.{RankIs, ranked, RankedAs}
 use Rattle.tables.specs.declared.Answer as counts
 use Rattle.tables.specs.declared.Plan.{Plan}
 use Rattle.tables.specs.declared.Shape.{Shape}
@@ -30,7 +33,7 @@ use Rattle.tables.specs.Form.{Form, W}
 use Rattle.tables.specs.Cells.{capOf, strideOf}
 use Rattle.tables.specs.Table.{Steepest, Deepest, Few, Sizes, Prepared, Spans, Table, Flagged, Small}
 use Rattle.tables.specs.Edges.{isEdge, numberOf, edgeOf}
-use Rattle.tables.specs.Numbering.{tableNumber}
+use Rattle.tables.specs.Numbering.{tableRanks}
 use Rattle.tables.specs.Spelling.{edgesBy, edgesFor}
 
 abbrev pub strideFor : Plan → ℕ
@@ -82,25 +85,28 @@ walksFor p sa sc = W (p .k) (p .f) sa sc (p .ex) (p .ey)
 abbrev pub countFor : Plan → List ℕ → List ℕ → counts.Answer
 countFor p sa sc = capOf (walksFor p sa sc)
 
-abbrev pub numberFor : Bool → Plan → List ℕ → List ℕ → List ℕ → Answer ℕ
-numberFor corner p sa sc e = tableNumber corner (p .k) (p .f) sa sc (p .ex) (p .ey) e
-
 abbrev pub validFor : Bool → Plan → List ℕ → List ℕ → List ℕ → Bool
-validFor corner p sa sc e = isEdge corner (p .k) (p .f) sa sc (p .ex) (p .ey) e
+validFor lettered p sa sc e = isEdge lettered (p .k) (p .f) sa sc (p .ex) (p .ey) e
 
 abbrev pub rankFor : Bool → Plan → List ℕ → List ℕ → List ℕ → ℕ
-rankFor corner p sa sc e = numberOf corner (p .k) (p .f) sa sc (p .ex) (p .ey) e
+rankFor lettered p sa sc e = numberOf lettered (p .k) (p .f) sa sc (p .ex) (p .ey) e
+
+abbrev pub RankFor : Bool → Plan → List ℕ → List ℕ → List ℕ → Rank → Type 0
+RankFor lettered p sa sc e r = RankIs (validFor lettered p sa sc e) (rankFor lettered p sa sc e) r
+
+abbrev pub NumbersFor : Bool → Plan → List ℕ → List ℕ → List (List ℕ) → List ℕ → List ℕ → Ranked → Type 0
+NumbersFor lettered p sa sc es before after r = RankedAs (ranked (tableRanks lettered (p .k) (p .f) sa sc (p .ex) (p .ey) es) before) r after
 
 abbrev pub edgeFor : Bool → Plan → List ℕ → List ℕ → ℕ → List ℕ
-edgeFor corner p sa sc r = edgeOf corner (p .k) (p .f) sa sc (p .ex) (p .ey) r
+edgeFor lettered p sa sc r = edgeOf lettered (p .k) (p .f) sa sc (p .ex) (p .ey) r
 
 abbrev pub ListsFor : Bool → Plan → List ℕ → List ℕ → List ℕ → List ℕ → List ℕ → List ℕ → List ℕ → ℕ → Type 0
-ListsFor corner p sa sc ns steps ends after-steps after-ends at =
-    LinedAs (lined (accepted (edgesBy corner (p .k) (p .f) sa sc (p .ex) (p .ey) ns)) steps ends) (Length at) after-steps after-ends
+ListsFor lettered p sa sc ns steps ends after-steps after-ends at =
+    LinedAs (lined (accepted (edgesBy lettered (p .k) (p .f) sa sc (p .ex) (p .ey) ns)) steps ends) (Length at) after-steps after-ends
 
 abbrev pub BuildsFor : Bool → Plan → List ℕ → List ℕ → List ℕ → List ℕ → List ℕ → List ℕ → List ℕ → Built → Type 0
-BuildsFor corner p sa sc ns steps ends after-steps after-ends r =
-    LinedAs (lined (edgesFor corner (p .k) (p .f) sa sc (p .ex) (p .ey) ns) steps ends) r after-steps after-ends
+BuildsFor lettered p sa sc ns steps ends after-steps after-ends r =
+    LinedAs (lined (edgesFor lettered (p .k) (p .f) sa sc (p .ex) (p .ey) ns) steps ends) r after-steps after-ends
 
 abbrev pub RoomFor : List ℕ → List ℕ → List ℕ → Type 0
 RoomFor ns steps ends = Room (length ns) (length steps) (length ends)

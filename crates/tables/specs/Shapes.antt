@@ -2,7 +2,7 @@
 --
 --   Grids J             the job is of family 1, 3, 6 or 7
 --   Sound j             the held job j stands for such a job
---   isCorner J          its edges are written N E D
+--   isLettered J          its edges are written N E D
 --   Sits J q            the spot q stands for the job's end
 --   stepsAt s, endAt s  the steps and the end of the shape s
 --   FormOf s            the shape s is one that the table can be filled for, with no more than the 32 columns of families 6 and 7
@@ -31,7 +31,7 @@ use Rattle.rules.specs.Jobs.{endOf}
 use Rattle.rules.specs.Jobs.Job.{north-east, dyck, delannoy, schroder, motzkin, directed}
 use Rattle.rules.specs.Valid.{Valid}
 use Rattle.rules.specs.Counts.{countOf}
-use Rattle.rules.specs.Shear.{gridOf, Corner, Slope}
+use Rattle.rules.specs.Shear.{gridOf, Plain, Slope}
 use Rattle.job.specs.declared.Job.{Job}
 use Rattle.job.specs.Stands.{Stands}
 use Rattle.tables.specs.Form.{Form, stepsIn, spot}
@@ -44,28 +44,28 @@ Grids (dyck n) = ⊥
 Grids (delannoy n m) = Unit {0}
 Grids (schroder n) = ⊥
 Grids (motzkin n) = ⊥
-Grids (directed fenced n m pairs) = Unit {0}
+Grids (directed fenced n m s pairs) = Unit {0}
 
 pub record Sound (j : Job) : Type 0 where
   pub job : rules.Job
   pub stands : Stands j job
   pub grids : Grids job
 
-abbrev pub isCorner : rules.Job → Bool
-isCorner (north-east n m) = true
-isCorner (dyck n) = true
-isCorner (delannoy n m) = true
-isCorner (schroder n) = true
-isCorner (motzkin n) = true
-isCorner (directed fenced n m pairs) = false
+abbrev pub isLettered : rules.Job → Bool
+isLettered (north-east n m) = true
+isLettered (dyck n) = true
+isLettered (delannoy n m) = true
+isLettered (schroder n) = true
+isLettered (motzkin n) = true
+isLettered (directed fenced n m s pairs) = false
 
 abbrev pub Sits : rules.Job → Spot → Type 0
-Sits (north-east n m) q = Corner (endOf (north-east n m)) q
+Sits (north-east n m) q = Plain (endOf (north-east n m)) q
 Sits (dyck n) q = ⊥
-Sits (delannoy n m) q = Corner (endOf (delannoy n m)) q
+Sits (delannoy n m) q = Plain (endOf (delannoy n m)) q
 Sits (schroder n) q = ⊥
 Sits (motzkin n) q = ⊥
-Sits (directed fenced n m pairs) q = Slope (endOf (directed fenced n m pairs)) q
+Sits (directed fenced n m s pairs) q = Slope s (endOf (directed fenced n m s pairs)) q
 
 abbrev pub stepsAt : Shape → Steps
 stepsAt s = stepsIn (s .k) (s .f) (s .sa) (s .sc)
@@ -86,7 +86,7 @@ pub record Fits (J : rules.Job) (s : Shape) : Type 0 where
   pub shows : Shows (gridOf J) end s
 
 pub data Shaped (J : rules.Job) (s : Shape) : Type 0 where
-  worked : s .state ≡ 0 → isCorner J ≡ false → FormOf s → Fits J s → Shaped J s
+  worked : s .state ≡ 0 → isLettered J ≡ false → FormOf s → Fits J s → Shaped J s
   nothing : s .state ≡ 1 → countOf J ≡ 0 → ((e : List ℕ) → Valid J e → ⊥) → Shaped J s
 
 -- whatever job the held job j stands for

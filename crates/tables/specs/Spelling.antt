@@ -23,8 +23,8 @@ pub record Front (e old new : List ℕ) (n : ℕ) : Type 0 where
   pub short : n ≤ 128
 
 abbrev pub edgesBy : Bool → ℕ → ℕ → List ℕ → List ℕ → ℕ → ℕ → List ℕ → List (List ℕ)
-edgesBy corner k f sa sc ex ey ns = map (edgeOf corner k f sa sc ex ey) ns
+edgesBy lettered k f sa sc ex ey ns = map (edgeOf lettered k f sa sc ex ey) ns
 
 abbrev pub edgesFor : Bool → ℕ → ℕ → List ℕ → List ℕ → ℕ → ℕ → List ℕ → Answer (List (List ℕ))
-edgesFor corner k f sa sc ex ey ns =
-    check (leb (W k f sa sc ex ey) most) over (check (allBelow (W k f sa sc ex ey) ns) beyond (accepted (edgesBy corner k f sa sc ex ey ns)))
+edgesFor lettered k f sa sc ex ey ns =
+    check (leb (W k f sa sc ex ey) most) over (check (allBelow (W k f sa sc ex ey) ns) beyond (accepted (edgesBy lettered k f sa sc ex ey ns)))

@@ -1,20 +1,41 @@
 -- `arch::count` meets its contract: by what is known of the block, and from the family's table or recursion. Assumes nothing.
-use mathlib.Core.Path.{subst}
+use mathlib.Core.Path.{_≡_, refl, subst}
+use mathlib.Core.Bool.{true, false}
 use native.Mathlib.Omega.{arith}
-use Rattle.arch.specs.Calls.{KnownIs}
-use Rattle.arch.proofs.Calls.{dyck-sort, schroder-sort, motzkin-sort, count-fits, count-refused}
 use borrow.Author.Needs.{needs}
+use Rattle.arches.proofs.Limits.{dyck-limit}
+use Rattle.rules.specs.Answers.{countAnswer}
+use Rattle.job.specs.declared.Counted.the-variants.{Count}
+use Rattle.lines.specs.declared.Counting.the-variants.{NotMine}
+use Rattle.lines.proofs.Mines.{other-count}
+use Rattle.lines.proofs.Knowing.{count-never, count-refusing, count-ending}
+use Rattle.arch.specs.declared.known.Known.{Known}
+use Rattle.arch.specs.Calls.{KnownIs}
+use Rattle.arch.proofs.Calls.{count-of, table-count}
 use Rattle.arch.proofs.count.Statement.{statement}
 use Rattle.arch.proofs.count.Tie as tie
 
-known-job-requires : tie.Need-known-job-requires
-known-job-requires c κs = search needs
+-- what is known of the block, by the arm
+knows : (c : tie.After-known-of) {r : Known} → c .known-of .result ≡ r → KnownIs (c .before .before .args .block .now) true r
+knows c e = subst (KnownIs _ _) e (c .known-of .ensures)
+
+known-of-requires : tie.Need-known-of-requires
+known-of-requires c κs = search needs
+
+enum-told : tie.Need-enum-told
+enum-told c = search needs
+
+enum-told-2 : tie.Need-enum-told-2
+enum-told-2 c = search needs
+
+enum-known-r : tie.Need-enum-known-r
+enum-known-r c = search needs
 
 enum-known-n : tie.Need-enum-known-n
 enum-known-n c = search needs
 
 dyck-count-requires : tie.Need-dyck-count-requires
-dyck-count-requires c κs = (subst (KnownIs (c .before .before .before .before .before .args .block .now)) (c .before .n .given .1) (c .before .before .before .known-job .ensures)) .small
+dyck-count-requires c κs = knows (c .before .before .before) (c .before .n .given .1) .small
 
 enum-known-n-2 : tie.Need-enum-known-n-2
 enum-known-n-2 c = search needs
@@ -22,11 +43,11 @@ enum-known-n-2 c = search needs
 schroder-counts-requires : tie.Need-schroder-counts-requires
 schroder-counts-requires c κs = search needs
 
-mul-t12 : tie.Need-mul-t12
-mul-t12 c = let known = subst (KnownIs (c .before .before .before .before .before .before .args .block .now)) (c .before .before .n2 .given .1) (c .before .before .before .before .known-job .ensures) in omega (arith, known .small)
+mul-t14 : tie.Need-mul-t14
+mul-t14 c = omega (arith, knows (c .before .before .before .before) (c .before .before .n2 .given .1) .small)
 
-array-read-t15 : tie.Need-array-read-t15
-array-read-t15 c = let known = subst (KnownIs (c .before .before .before .before .before .before .args .block .now)) (c .before .before .n2 .given .1) (c .before .before .before .before .known-job .ensures) in omega (arith, known .small)
+array-read-t17 : tie.Need-array-read-t17
+array-read-t17 c = omega (arith, knows (c .before .before .before .before) (c .before .before .n2 .given .1) .small)
 
 enum-known-n-3 : tie.Need-enum-known-n-3
 enum-known-n-3 c = search needs
@@ -34,44 +55,57 @@ enum-known-n-3 c = search needs
 motzkin-counts-requires : tie.Need-motzkin-counts-requires
 motzkin-counts-requires c κs = search needs
 
-mul-t17 : tie.Need-mul-t17
-mul-t17 c = let known = subst (KnownIs (c .before .before .before .before .before .before .args .block .now)) (c .before .before .n3 .given .1) (c .before .before .before .before .known-job .ensures) in omega (arith, known .small)
+mul-t20 : tie.Need-mul-t20
+mul-t20 c = omega (arith, knows (c .before .before .before .before) (c .before .before .n3 .given .1) .small)
 
-array-read-t20 : tie.Need-array-read-t20
-array-read-t20 c = let known = subst (KnownIs (c .before .before .before .before .before .before .args .block .now)) (c .before .before .n3 .given .1) (c .before .before .before .before .known-job .ensures) in omega (arith, known .small)
-
-enum-known-r : tie.Need-enum-known-r
-enum-known-r c = search needs
+array-read-t23 : tie.Need-array-read-t23
+array-read-t23 c = omega (arith, knows (c .before .before .before .before) (c .before .before .n3 .given .1) .small)
 
 returns : tie.Need-returns
-returns c = count-fits (c .before .before .before .before .before .before .args .block .now) dyck-sort (subst (KnownIs (c .before .before .before .before .before .before .args .block .now)) (c .before .before .n .given .1) (c .before .before .before .before .known-job .ensures)) _ (c .dyck-count .ensures)
+returns c = other-count (knows (c .before .before) (c .enum-told .given .1)) (countAnswer (c .before .before .before .before .args .block .now))
 
 returns-2 : tie.Need-returns-2
-returns-2 c = let known = subst (KnownIs (c .before .before .before .before .before .before .args .block .now)) (c .before .before .n2 .given .1) (c .before .before .before .before .known-job .ensures) in count-fits (c .before .before .before .before .before .before .args .block .now) schroder-sort known _ (c .schroder-counts .ensures .full _ (known .small))
+returns-2 c = count-never _ NotMine (knows (c .before .before) (c .enum-told2 .given .1))
 
 returns-3 : tie.Need-returns-3
-returns-3 c = let known = subst (KnownIs (c .before .before .before .before .before .before .args .block .now)) (c .before .before .n3 .given .1) (c .before .before .before .before .known-job .ensures) in count-fits (c .before .before .before .before .before .before .args .block .now) motzkin-sort known _ (c .motzkin-counts .ensures .full _ (known .small))
+returns-3 c = count-refusing _ (knows (c .before .before .before) (c .before .r .given .1))
 
 returns-4 : tie.Need-returns-4
-returns-4 c = count-refused (c .before .before .before .before .before .args .block .now) (subst (KnownIs (c .before .before .before .before .before .args .block .now)) (c .before .r .given .1) (c .before .before .before .known-job .ensures))
+returns-4 c =
+    let known = knows (c .before .before .before .before) (c .before .before .n .given .1) in
+    count-ending _ (Count _) (known .ends) (count-of false 0 refl _ (dyck-limit _ .0 (known .small)) _ (c .dyck-count .ensures))
+
+returns-5 : tie.Need-returns-5
+returns-5 c =
+    let known = knows (c .before .before .before .before) (c .before .before .n2 .given .1) in
+    count-ending _ (Count _) (known .ends) (table-count (c .schroder-counts .ensures) _ (known .small))
+
+returns-6 : tie.Need-returns-6
+returns-6 c =
+    let known = knows (c .before .before .before .before) (c .before .before .n3 .given .1) in
+    count-ending _ (Count _) (known .ends) (table-count (c .motzkin-counts .ensures) _ (known .small))
 
 pub count-spec : {M : Type 1} → statement M
 count-spec =
     tie.close
     (tie.spec
-    known-job-requires
+    known-of-requires
+    enum-told
+    enum-told-2
+    enum-known-r
     enum-known-n
     dyck-count-requires
     enum-known-n-2
     schroder-counts-requires
-    mul-t12
-    array-read-t15
+    mul-t14
+    array-read-t17
     enum-known-n-3
     motzkin-counts-requires
-    mul-t17
-    array-read-t20
-    enum-known-r
+    mul-t20
+    array-read-t23
     returns
     returns-2
     returns-3
-    returns-4)
+    returns-4
+    returns-5
+    returns-6)

@@ -1,49 +1,68 @@
--- `calls::count` meets its contract: the crate of the block's family answers. Assumes nothing.
-use mathlib.Core.Path.{sym, ap, _∙_}
-use Rattle.job.specs.Replies.{reply}
-use Rattle.calls.proofs.Routes.{of-arch, of-rows, of-grid}
+-- `calls::count` meets its contract: the crate that has the family answers, or none has it. Assumes nothing.
 use borrow.Author.Needs.{needs}
+use Rattle.rules.specs.Blocks.{familyOf, square, plain, paired}
+use Rattle.rules.specs.Answers.{countAnswer}
+use Rattle.calls.proofs.Routes.{taken-count, passed-count, none-counts}
 use Rattle.calls.proofs.count.Statement.{statement}
 use Rattle.calls.proofs.count.Tie as tie
-use Rattle.grid.proofs.count.Reads as count-reads′
-use Rattle.rows.proofs.count.Reads as count-reads′′
-
-is-square-requires : tie.Need-is-square-requires
-is-square-requires c κs = search needs
 
 count-requires : tie.Need-count-requires
 count-requires c κs = search needs
 
+enum-known-r : tie.Need-enum-known-r
+enum-known-r c = search needs
+
 returns : tie.Need-returns
 returns c =
-    c .count .ensures ∙ ap reply (of-arch (c .before .before .before .before .args .block .now) _ (sym (c .before .before .is-square .ensures) ∙ c .before .if1 .taken))
+    taken-count (square (familyOf (c .before .before .before .before .before .args .block .now))) (countAnswer (c .before .before .before .before .before .args .block .now)) _ (c .before .before .before .count .ensures) _ (c .before .r .given .1)
 
-is-corner-requires : tie.Need-is-corner-requires
-is-corner-requires c κs = search needs
+enum-told : tie.Need-enum-told
+enum-told c = search needs
 
 count-requires-2 : tie.Need-count-requires-2
 count-requires-2 c κs = search needs
 
+enum-known-r-2 : tie.Need-enum-known-r-2
+enum-known-r-2 c = search needs
+
 returns-2 : tie.Need-returns-2
 returns-2 c =
-    c .count2 .ensures ∙ ap reply (of-rows (c .before .before .before .before .before .before .args .block .now) _ (sym (c .before .before .is-corner .ensures) ∙ c .before .if2 .taken))
+    taken-count (plain (familyOf (c .before .before .before .before .before .before .before .before .args .block .now))) (countAnswer (c .before .before .before .before .before .before .before .before .args .block .now)) _ (c .before .before .before .count2 .ensures) _ (c .before .r2 .given .1)
+
+enum-told-2 : tie.Need-enum-told-2
+enum-told-2 c = search needs
 
 count-requires-3 : tie.Need-count-requires-3
 count-requires-3 c κs = search needs
 
+enum-known-r-3 : tie.Need-enum-known-r-3
+enum-known-r-3 c = search needs
+
 returns-3 : tie.Need-returns-3
 returns-3 c =
-    c .count3 .ensures ∙ ap reply (of-grid (c .before .before .before .before .before .before .args .block .now) _ (sym (c .before .before .before .before .is-square .ensures) ∙ c .before .before .before .if1 .left) (sym (c .before .before .is-corner .ensures) ∙ c .before .if2 .left))
+    taken-count (paired (familyOf (c .before .before .before .before .before .before .before .before .before .before .before .args .block .now))) (countAnswer (c .before .before .before .before .before .before .before .before .before .before .before .args .block .now)) _ (c .before .before .before .count3 .ensures) _ (c .before .r3 .given .1)
+
+enum-told-3 : tie.Need-enum-told-3
+enum-told-3 c = search needs
+
+returns-4 : tie.Need-returns-4
+returns-4 c =
+    none-counts (c .before .before .before .before .before .before .before .before .before .before .args .block .now) (passed-count (square (familyOf (c .before .before .before .before .before .before .before .before .before .before .args .block .now))) (countAnswer (c .before .before .before .before .before .before .before .before .before .before .args .block .now)) _ (c .before .before .before .before .before .before .before .before .count .ensures) (c .before .before .before .before .before .before .enum-told .given .1)) (passed-count (plain (familyOf (c .before .before .before .before .before .before .before .before .before .before .args .block .now))) (countAnswer (c .before .before .before .before .before .before .before .before .before .before .args .block .now)) _ (c .before .before .before .before .before .count2 .ensures) (c .before .before .before .enum-told2 .given .1)) (passed-count (paired (familyOf (c .before .before .before .before .before .before .before .before .before .before .args .block .now))) (countAnswer (c .before .before .before .before .before .before .before .before .before .before .args .block .now)) _ (c .before .before .count3 .ensures) (c .enum-told3 .given .1))
 
 pub count-spec : {M : Type 1} → statement M
 count-spec =
     tie.close
     (tie.spec
-    is-square-requires
     count-requires
+    enum-known-r
     returns
-    is-corner-requires
+    enum-told
     count-requires-2
+    enum-known-r-2
     returns-2
+    enum-told-2
     count-requires-3
-    returns-3)
+    enum-known-r-3
+    returns-3
+    enum-told-3
+    returns-4)

@@ -1,49 +1,60 @@
--- `calls::number` meets its contract: the crate of the block's family answers. Assumes nothing.
-use mathlib.Core.Path.{sym, ap, _∙_}
-use Rattle.job.specs.Replies.{reply}
-use Rattle.calls.proofs.Routes.{of-arch, of-rows, of-grid}
+-- `calls::number` meets its contract: the number of a list of one edge. Assumes nothing.
+use Prim.Native.Nat.{ℕ}
+use native.Mathlib.Omega.{arith}
+use lib.ListN.{replicate, length-replicate}
 use borrow.Author.Needs.{needs}
+use Rattle.calls.proofs.Ones.{one-told, one-untold, one-room}
 use Rattle.calls.proofs.number.Statement.{statement}
 use Rattle.calls.proofs.number.Tie as tie
-use Rattle.grid.proofs.number.Reads as number-reads′
-use Rattle.rows.proofs.number.Reads as number-reads′′
 
-is-square-requires : tie.Need-is-square-requires
-is-square-requires c κs = search needs
+slice-aggregate-number-all : tie.Need-slice-aggregate-number-all
+slice-aggregate-number-all c = search needs
 
-number-requires : tie.Need-number-requires
-number-requires c κs = search needs
+slice-aggregate-number-all-2 : tie.Need-slice-aggregate-number-all-2
+slice-aggregate-number-all-2 c = search needs
+
+number-all-requires : tie.Need-number-all-requires
+number-all-requires c κs = search needs
+
+enum-known-n : tie.Need-enum-known-n
+enum-known-n c = search needs
+
+array-read-told : tie.Need-array-read-told
+array-read-told c = search needs
+
+told-requires : tie.Need-told-requires
+told-requires c κs = search needs
+
+enum-known-r : tie.Need-enum-known-r
+enum-known-r c = search needs
+
+enum-told : tie.Need-enum-told
+enum-told c = search needs
 
 returns : tie.Need-returns
 returns c =
-    c .number .ensures ∙ ap reply (of-arch (c .before .before .before .before .before .args .block .now) _ (sym (c .before .before .is-square .ensures) ∙ c .before .if1 .taken))
-
-is-corner-requires : tie.Need-is-corner-requires
-is-corner-requires c κs = search needs
-
-number-requires-2 : tie.Need-number-requires-2
-number-requires-2 c κs = search needs
+    one-told (c .before .before .before .before .before .before .before .before .before .before .args .block .now) (c .before .before .before .before .before .before .before .before .before .before .args .edge .now) (replicate 1 0) _ (omega (arith, length-replicate {A = ℕ} 1 0)) (c .before .before .before .before .before .number-all .ensures) (c .before .before .n .given .1) (c .told .ensures)
 
 returns-2 : tie.Need-returns-2
 returns-2 c =
-    c .number2 .ensures ∙ ap reply (of-rows (c .before .before .before .before .before .before .before .args .block .now) _ (sym (c .before .before .is-corner .ensures) ∙ c .before .if2 .taken))
-
-number-requires-3 : tie.Need-number-requires-3
-number-requires-3 c κs = search needs
+    one-untold (c .before .before .before .before .before .before .before .before .before .args .block .now) (c .before .before .before .before .before .before .before .before .before .args .edge .now) (replicate 1 0) _ (omega (arith, length-replicate {A = ℕ} 1 0)) (c .before .before .before .before .number-all .ensures) (c .before .r .given .1)
 
 returns-3 : tie.Need-returns-3
 returns-3 c =
-    c .number3 .ensures ∙ ap reply (of-grid (c .before .before .before .before .before .before .before .args .block .now) _ (sym (c .before .before .before .before .is-square .ensures) ∙ c .before .before .before .if1 .left) (sym (c .before .before .is-corner .ensures) ∙ c .before .if2 .left))
+    absurd (one-room (c .before .before .before .before .before .before .before .before .args .block .now) (c .before .before .before .before .before .before .before .before .args .edge .now) (replicate 1 0) _ (omega (arith, length-replicate {A = ℕ} 1 0)) (c .before .before .before .number-all .ensures) (c .enum-told .given .1))
 
 pub number-spec : {M : Type 1} → statement M
 number-spec =
     tie.close
     (tie.spec
-    is-square-requires
-    number-requires
+    slice-aggregate-number-all
+    slice-aggregate-number-all-2
+    number-all-requires
+    enum-known-n
+    array-read-told
+    told-requires
+    enum-known-r
+    enum-told
     returns
-    is-corner-requires
-    number-requires-2
     returns-2
-    number-requires-3
     returns-3)

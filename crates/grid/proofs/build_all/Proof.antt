@@ -1,11 +1,8 @@
--- `grid::build_all` meets its contract: by room, by family, by the job maker's answer, and by the job's shape. Assumes nothing.
+-- `grid::build_all` meets its contract: by what is known of the block. Assumes nothing.
 use mathlib.Core.Path.{sym, _∙_}
-use borrow.Author.Tests.{not-true, not-false}
-use Rattle.job.proofs.Standing.{kept-of, told-of}
-use Rattle.lines.proofs.Lining.{room-of, lines-short, lines-room}
-use Rattle.tables.proofs.Counted.{sound-of, countable-of}
-use Rattle.tables.proofs.Builds.{build-other, build-told, build-shaped}
-use Rattle.grid.proofs.Families.{is-square, is-corner, neither, directed-of}
+use Rattle.lines.proofs.Lining.{room-of}
+use Rattle.lines.proofs.Mines.{other-lines}
+use Rattle.lines.proofs.Knowing.{lines-no-room, lines-refusing, lines-ending}
 use borrow.Author.Needs.{needs}
 use Rattle.grid.proofs.build_all.Statement.{statement}
 use Rattle.grid.proofs.build_all.Tie as tie
@@ -13,38 +10,32 @@ use Rattle.grid.proofs.build_all.Tie as tie
 has-room-requires : tie.Need-has-room-requires
 has-room-requires c κs = search needs
 
-returns : tie.Need-returns
-returns c =
-    lines-short _ (c .before .before .before .before .before .before .args .numbers .now) _ _ (sym (c .before .has-room .ensures) ∙ not-true _ (c .if1 .taken))
+known-of-requires : tie.Need-known-of-requires
+known-of-requires c κs = search needs
 
-is-square-requires : tie.Need-is-square-requires
-is-square-requires c κs = search needs
+enum-told : tie.Need-enum-told
+enum-told c = search needs
+
+enum-told-2 : tie.Need-enum-told-2
+enum-told-2 c = search needs
+
+enum-known-told : tie.Need-enum-known-told
+enum-known-told c = search needs
+
+enum-told-3 : tie.Need-enum-told-3
+enum-told-3 c = search needs
+
+spell-edges-requires : tie.Need-spell-edges-requires
+spell-edges-requires c κs = let h = rw (c .before .before .enum-told3 .given .1) at (c .before .before .before .before .known-of .ensures) in (h .shape, room-of _ _ _ (sym (c .before .before .before .before .before .has-room .ensures) ∙ h .ending .roomy))
+
+returns : tie.Need-returns
+returns c = other-lines (rw (c .enum-told .given .1) at (c .before .before .known-of .ensures)) _ _ _
 
 returns-2 : tie.Need-returns-2
-returns-2 c =
-    lines-room _ (c .before .before .before .before .before .before .before .before .args .numbers .now) _ _ _ _ _ (sym (c .before .before .before .has-room .ensures) ∙ not-false _ (c .before .before .if1 .left)) (build-other (c .before .before .before .before .before .before .before .before .args .block .now) (c .before .before .before .before .before .before .before .before .args .numbers .now) _ _ (is-square _ (sym (c .before .is-square .ensures) ∙ c .if2 .taken)))
-
-is-corner-requires : tie.Need-is-corner-requires
-is-corner-requires c κs = search needs
+returns-2 c = lines-no-room (c .before .before .before .before .before .before .before .before .args .block .now) _ _ _ (c .before .before .before .has-room .ensures) (rw (c .enum-told2 .given .1) at (c .before .before .known-of .ensures))
 
 returns-3 : tie.Need-returns-3
-returns-3 c =
-    lines-room _ (c .before .before .before .before .before .before .before .before .before .before .args .numbers .now) _ _ _ _ _ (sym (c .before .before .before .before .before .has-room .ensures) ∙ not-false _ (c .before .before .before .before .if1 .left)) (build-other (c .before .before .before .before .before .before .before .before .before .before .args .block .now) (c .before .before .before .before .before .before .before .before .before .before .args .numbers .now) _ _ (is-corner (sym (c .before .before .before .is-square .ensures) ∙ c .before .before .if2 .left) (sym (c .before .is-corner .ensures) ∙ c .if3 .taken)))
-
-of-requires : tie.Need-of-requires
-of-requires c κs = search needs
-
-returns-4 : tie.Need-returns-4
-returns-4 c =
-    lines-room _ (c .before .before .before .before .before .before .before .before .before .before .before .before .args .numbers .now) _ _ _ _ _ (sym (c .before .before .before .before .before .before .before .has-room .ensures) ∙ not-false _ (c .before .before .before .before .before .before .if1 .left)) (build-told (c .before .before .before .before .before .before .before .before .before .before .before .before .args .block .now) (c .before .before .before .before .before .before .before .before .before .before .before .before .args .numbers .now) _ _ _ (neither (sym (c .before .before .before .before .before .is-square .ensures) ∙ c .before .before .before .before .if2 .left) (sym (c .before .before .before .is-corner .ensures) ∙ c .before .before .if3 .left)) (told-of (c .before .before .before .before .before .before .before .before .before .before .before .before .args .block .now) (c .before .of .result) (c .before .of .ensures) (c .if4 .taken)))
-
-shape-of-requires : tie.Need-shape-of-requires
-shape-of-requires c κs =
-    (sound-of (c .before .before .before .before .before .before .before .before .before .before .before .before .args .block .now) (c .before .of .result .job) (kept-of (c .before .before .before .before .before .before .before .before .before .before .before .before .args .block .now) (c .before .of .result) (λ i. c .before .before .before .before .before .before .before .before .before .before .before .shared-slice-known .given i .fits) (c .before .of .ensures) (c .if4 .left)) (sym (c .before .before .before .before .before .is-square .ensures) ∙ c .before .before .before .before .if2 .left), directed-of (c .before .before .before .before .before .before .before .before .before .before .before .before .args .block .now) (c .before .of .result .job) (kept-of (c .before .before .before .before .before .before .before .before .before .before .before .before .args .block .now) (c .before .of .result) (λ i. c .before .before .before .before .before .before .before .before .before .before .before .shared-slice-known .given i .fits) (c .before .of .ensures) (c .if4 .left)) (sym (c .before .before .before .before .before .is-square .ensures) ∙ c .before .before .before .before .if2 .left) (sym (c .before .before .before .is-corner .ensures) ∙ c .before .before .if3 .left))
-
-build-shape-requires : tie.Need-build-shape-requires
-build-shape-requires c κs =
-    (countable-of (c .before .before .before .before .before .before .before .before .before .before .before .before .before .before .before .args .block .now) (c .before .before .before .before .of .result .job) (kept-of (c .before .before .before .before .before .before .before .before .before .before .before .before .before .before .before .args .block .now) (c .before .before .before .before .of .result) (λ i. c .before .before .before .before .before .before .before .before .before .before .before .before .before .before .shared-slice-known .given i .fits) (c .before .before .before .before .of .ensures) (c .before .before .before .if4 .left)) (sym (c .before .before .before .before .before .before .before .before .is-square .ensures) ∙ c .before .before .before .before .before .before .before .if2 .left) (c .before .before .shape-of .ensures), room-of _ _ _ (sym (c .before .before .before .before .before .before .before .before .before .before .has-room .ensures) ∙ not-false _ (c .before .before .before .before .before .before .before .before .before .if1 .left)))
+returns-3 c = lines-refusing (c .before .before .before .before .before .before .before .before .before .args .block .now) _ _ _ (c .before .before .before .before .has-room .ensures) (rw (c .before .told .given .1) at (c .before .before .before .known-of .ensures))
 
 same-length : tie.Need-same-length
 same-length c = search needs
@@ -52,24 +43,25 @@ same-length c = search needs
 same-length-2 : tie.Need-same-length-2
 same-length-2 c = search needs
 
-returns-5 : tie.Need-returns-5
-returns-5 c =
-    lines-room _ (c .before .before .before .before .before .before .before .before .before .before .before .before .before .before .before .before .before .before .before .before .args .numbers .now) _ _ _ _ _ (sym (c .before .before .before .before .before .before .before .before .before .before .before .before .before .before .before .has-room .ensures) ∙ not-false _ (c .before .before .before .before .before .before .before .before .before .before .before .before .before .before .if1 .left)) (build-shaped (c .before .before .before .before .before .before .before .before .before .before .before .before .before .before .before .before .before .before .before .before .args .block .now) (c .before .before .before .before .before .before .before .before .before .before .before .before .before .before .before .before .before .before .before .before .args .numbers .now) _ _ (c .before .before .before .before .before .before .before .before .before .of .result .job) (kept-of (c .before .before .before .before .before .before .before .before .before .before .before .before .before .before .before .before .before .before .before .before .args .block .now) (c .before .before .before .before .before .before .before .before .before .of .result) (λ i. c .before .before .before .before .before .before .before .before .before .before .before .before .before .before .before .before .before .before .before .shared-slice-known .given i .fits) (c .before .before .before .before .before .before .before .before .before .of .ensures) (c .before .before .before .before .before .before .before .before .if4 .left)) (sym (c .before .before .before .before .before .before .before .before .before .before .before .before .before .is-square .ensures) ∙ c .before .before .before .before .before .before .before .before .before .before .before .before .if2 .left) (neither (sym (c .before .before .before .before .before .before .before .before .before .before .before .before .before .is-square .ensures) ∙ c .before .before .before .before .before .before .before .before .before .before .before .before .if2 .left) (sym (c .before .before .before .before .before .before .before .before .before .before .before .is-corner .ensures) ∙ c .before .before .before .before .before .before .before .before .before .before .if3 .left)) (c .before .before .before .before .before .before .before .shape-of .ensures) _ _ _ (c .before .before .before .before .build-shape .ensures))
+returns-4 : tie.Need-returns-4
+returns-4 c =
+    let h = rw (c .before .before .before .before .before .before .before .enum-told3 .given .1) at (c .before .before .before .before .before .before .before .before .before .known-of .ensures) in
+    lines-ending (c .before .before .before .before .before .before .before .before .before .before .before .before .before .before .before .args .block .now) _ _ _ (c .before .before .before .before .before .before .before .before .before .before .has-room .ensures) _ _ _ (h .ending) (c .before .before .before .before .spell-edges .ensures (h .shape .job) (h .shape .range) (h .shape .grids) (h .shape .shaped))
 
 pub build-all-spec : {M : Type 1} → statement M
 build-all-spec =
     tie.close
     (tie.spec
     has-room-requires
+    known-of-requires
+    enum-told
+    enum-told-2
+    enum-known-told
+    enum-told-3
+    spell-edges-requires
     returns
-    is-square-requires
     returns-2
-    is-corner-requires
     returns-3
-    of-requires
-    returns-4
-    shape-of-requires
-    build-shape-requires
     same-length
     same-length-2
-    returns-5)
+    returns-4)

@@ -1,55 +1,55 @@
--- `grid::count` meets its contract: by family, by the job maker's answer, and by the job's shape. Assumes nothing.
-use mathlib.Core.Path.{sym, _∙_}
-use Rattle.job.proofs.Standing.{kept-of, told-of}
-use Rattle.tables.proofs.Counted.{other-reply, count-told-reply, sound-of, countable-of, count-shaped}
-use Rattle.grid.proofs.Families.{is-square, is-corner, neither, directed-of}
+-- `grid::count` meets its contract: by what is known of the block. Assumes nothing.
+use Rattle.rules.specs.Answers.{countAnswer}
+use Rattle.lines.specs.declared.Counting.the-variants.{NotMine}
+use Rattle.lines.proofs.Mines.{other-count}
+use Rattle.lines.proofs.Knowing.{count-never, count-refusing, count-ending}
 use borrow.Author.Needs.{needs}
 use Rattle.grid.proofs.count.Statement.{statement}
 use Rattle.grid.proofs.count.Tie as tie
 
-is-square-requires : tie.Need-is-square-requires
-is-square-requires c κs = search needs
+known-of-requires : tie.Need-known-of-requires
+known-of-requires c κs = search needs
+
+enum-told : tie.Need-enum-told
+enum-told c = search needs
+
+enum-told-2 : tie.Need-enum-told-2
+enum-told-2 c = search needs
+
+enum-known-told : tie.Need-enum-known-told
+enum-known-told c = search needs
+
+enum-told-3 : tie.Need-enum-told-3
+enum-told-3 c = search needs
+
+count-requires : tie.Need-count-requires
+count-requires c κs = (rw (c .enum-told3 .given .1) at (c .before .before .known-of .ensures)) .shape
 
 returns : tie.Need-returns
-returns c =
-    other-reply _ (is-square _ (sym (c .before .is-square .ensures) ∙ c .if1 .taken))
-
-is-corner-requires : tie.Need-is-corner-requires
-is-corner-requires c κs = search needs
+returns c = other-count (rw (c .enum-told .given .1) at (c .before .before .known-of .ensures)) (countAnswer (c .before .before .before .before .args .block .now))
 
 returns-2 : tie.Need-returns-2
-returns-2 c =
-    other-reply _ (is-corner (sym (c .before .before .before .is-square .ensures) ∙ c .before .before .if1 .left) (sym (c .before .is-corner .ensures) ∙ c .if2 .taken))
-
-of-requires : tie.Need-of-requires
-of-requires c κs = search needs
+returns-2 c = count-never (c .before .before .before .before .args .block .now) NotMine (rw (c .enum-told2 .given .1) at (c .before .before .known-of .ensures))
 
 returns-3 : tie.Need-returns-3
-returns-3 c =
-    count-told-reply (c .before .before .before .before .before .before .before .args .block .now) _ (neither (sym (c .before .before .before .before .before .is-square .ensures) ∙ c .before .before .before .before .if1 .left) (sym (c .before .before .before .is-corner .ensures) ∙ c .before .before .if2 .left)) (told-of (c .before .before .before .before .before .before .before .args .block .now) (c .before .of .result) (c .before .of .ensures) (c .if3 .taken))
-
-shape-of-requires : tie.Need-shape-of-requires
-shape-of-requires c κs =
-    (sound-of (c .before .before .before .before .before .before .before .args .block .now) (c .before .of .result .job) (kept-of (c .before .before .before .before .before .before .before .args .block .now) (c .before .of .result) (λ i. c .before .before .before .before .before .before .shared-slice-known .given i .fits) (c .before .of .ensures) (c .if3 .left)) (sym (c .before .before .before .before .before .is-square .ensures) ∙ c .before .before .before .before .if1 .left), directed-of (c .before .before .before .before .before .before .before .args .block .now) (c .before .of .result .job) (kept-of (c .before .before .before .before .before .before .before .args .block .now) (c .before .of .result) (λ i. c .before .before .before .before .before .before .shared-slice-known .given i .fits) (c .before .of .ensures) (c .if3 .left)) (sym (c .before .before .before .before .before .is-square .ensures) ∙ c .before .before .before .before .if1 .left) (sym (c .before .before .before .is-corner .ensures) ∙ c .before .before .if2 .left))
-
-count-shape-requires : tie.Need-count-shape-requires
-count-shape-requires c κs =
-    countable-of (c .before .before .before .before .before .before .before .before .args .block .now) (c .before .before .of .result .job) (kept-of (c .before .before .before .before .before .before .before .before .args .block .now) (c .before .before .of .result) (λ i. c .before .before .before .before .before .before .before .shared-slice-known .given i .fits) (c .before .before .of .ensures) (c .before .if3 .left)) (sym (c .before .before .before .before .before .before .is-square .ensures) ∙ c .before .before .before .before .before .if1 .left) (c .shape-of .ensures)
+returns-3 c = count-refusing (c .before .before .before .before .before .args .block .now) (rw (c .before .told .given .1) at (c .before .before .before .known-of .ensures))
 
 returns-4 : tie.Need-returns-4
 returns-4 c =
-    count-shaped (c .before .before .before .before .before .before .before .before .before .args .block .now) (c .before .before .before .of .result .job) (kept-of (c .before .before .before .before .before .before .before .before .before .args .block .now) (c .before .before .before .of .result) (λ i. c .before .before .before .before .before .before .before .before .shared-slice-known .given i .fits) (c .before .before .before .of .ensures) (c .before .before .if3 .left)) (sym (c .before .before .before .before .before .before .before .is-square .ensures) ∙ c .before .before .before .before .before .before .if1 .left) (neither (sym (c .before .before .before .before .before .before .before .is-square .ensures) ∙ c .before .before .before .before .before .before .if1 .left) (sym (c .before .before .before .before .before .is-corner .ensures) ∙ c .before .before .before .before .if2 .left)) (c .before .shape-of .ensures) (c .count-shape .result) (c .count-shape .ensures)
+    let h = rw (c .before .enum-told3 .given .1) at (c .before .before .before .known-of .ensures) in
+    count-ending (c .before .before .before .before .before .args .block .now) (c .count .result) (h .ending) (c .count .ensures (h .shape .job) (h .shape .range) (h .shape .shaped))
 
 pub count-spec : {M : Type 1} → statement M
 count-spec =
     tie.close
     (tie.spec
-    is-square-requires
+    known-of-requires
+    enum-told
+    enum-told-2
+    enum-known-told
+    enum-told-3
+    count-requires
     returns
-    is-corner-requires
     returns-2
-    of-requires
     returns-3
-    shape-of-requires
-    count-shape-requires
     returns-4)

@@ -4,8 +4,8 @@ use Prim.Native.Nat.{ℕ}
 use native.Mathlib.Omega.{arith}
 use lib.ListN.{replicate, length-replicate}
 use lib.Seq.{length-take-le}
-use Rattle.packing.proofs.Wholes.{many-built, whole-of, whole-built, whole-refused}
 use borrow.Author.Needs.{needs}
+use Rattle.packing.proofs.Wholes.{many-built, whole-of, whole-built, whole-refused}
 use Rattle.packing.proofs.write.Statement.{statement}
 use Rattle.packing.proofs.write.Tie as tie
 
@@ -13,7 +13,8 @@ too-many-requires : tie.Need-too-many-requires
 too-many-requires c κs = search needs
 
 returns : tie.Need-returns
-returns c = many-built (c .before .before .before .before .before .args .block .now) (c .before .before .before .before .before .args .numbers .now) _ _ (c .before .if1 .taken) (c .too-many .ensures)
+returns c =
+    many-built (c .before .before .before .before .before .args .block .now) (c .before .before .before .before .before .args .numbers .now) _ _ (c .before .if1 .taken) (c .too-many .ensures)
 
 slice-aggregate-build-all : tie.Need-slice-aggregate-build-all
 slice-aggregate-build-all c = search needs
@@ -24,6 +25,9 @@ slice-aggregate-build-all-2 c = search needs
 build-all-requires : tie.Need-build-all-requires
 build-all-requires c κs = search needs
 
+built-requires : tie.Need-built-requires
+built-requires c κs = search needs
+
 enum-known-n : tie.Need-enum-known-n
 enum-known-n c = search needs
 
@@ -31,16 +35,20 @@ array-share-prefix-ends : tie.Need-array-share-prefix-ends
 array-share-prefix-ends c = search needs
 
 slice-aggregate-put-pack : tie.Need-slice-aggregate-put-pack
-slice-aggregate-put-pack c = sym (length-take-le _ _ ((whole-of (c .before .before .before .before .before .before .before .before .before .before .before .before .before .args .block .now) (c .before .before .before .before .before .before .before .before .before .before .before .before .before .args .numbers .now) (replicate 25600 0) (replicate 200 0) (record { for-steps = omega (arith, length-replicate {A = ℕ} 25600 0, c .before .before .before .before .before .before .before .before .before .if1 .left); for-ends = omega (arith, length-replicate {A = ℕ} 200 0, c .before .before .before .before .before .before .before .before .before .if1 .left) }) (c .before .before .before .before .before .before .before .before .before .if1 .left) _ _ _ _ (c .before .before .n .given .1) (c .before .before .before .before .before .before .build-all .ensures) (search needs)) .many))
+slice-aggregate-put-pack c =
+    sym (length-take-le _ _ ((whole-of (c .before .before .before .before .before .before .before .before .before .before .before .before .before .before .args .block .now) (c .before .before .before .before .before .before .before .before .before .before .before .before .before .before .args .numbers .now) (replicate 25600 0) (replicate 200 0) (record { for-steps = omega (arith, length-replicate {A = ℕ} 25600 0, c .before .before .before .before .before .before .before .before .before .before .if1 .left); for-ends = omega (arith, length-replicate {A = ℕ} 200 0, c .before .before .before .before .before .before .before .before .before .before .if1 .left) }) (c .before .before .before .before .before .before .before .before .before .before .if1 .left) _ _ _ _ _ (c .before .before .before .before .built .ensures) (c .before .before .n .given .1) (c .before .before .before .before .before .before .before .build-all .ensures) (search needs)) .many))
 
 array-share-prefix-steps : tie.Need-array-share-prefix-steps
-array-share-prefix-steps c = (whole-of (c .before .before .before .before .before .before .before .before .before .before .before .before .before .args .block .now) (c .before .before .before .before .before .before .before .before .before .before .before .before .before .args .numbers .now) (replicate 25600 0) (replicate 200 0) (record { for-steps = omega (arith, length-replicate {A = ℕ} 25600 0, c .before .before .before .before .before .before .before .before .before .if1 .left); for-ends = omega (arith, length-replicate {A = ℕ} 200 0, c .before .before .before .before .before .before .before .before .before .if1 .left) }) (c .before .before .before .before .before .before .before .before .before .if1 .left) _ _ _ _ (c .before .before .n .given .1) (c .before .before .before .before .before .before .build-all .ensures) (search needs)) .fits
+array-share-prefix-steps c =
+    (whole-of (c .before .before .before .before .before .before .before .before .before .before .before .before .before .before .args .block .now) (c .before .before .before .before .before .before .before .before .before .before .before .before .before .before .args .numbers .now) (replicate 25600 0) (replicate 200 0) (record { for-steps = omega (arith, length-replicate {A = ℕ} 25600 0, c .before .before .before .before .before .before .before .before .before .before .if1 .left); for-ends = omega (arith, length-replicate {A = ℕ} 200 0, c .before .before .before .before .before .before .before .before .before .before .if1 .left) }) (c .before .before .before .before .before .before .before .before .before .before .if1 .left) _ _ _ _ _ (c .before .before .before .before .built .ensures) (c .before .before .n .given .1) (c .before .before .before .before .before .before .before .build-all .ensures) (search needs)) .fits
 
 slice-aggregate-put-pack-2 : tie.Need-slice-aggregate-put-pack-2
-slice-aggregate-put-pack-2 c = sym (length-take-le _ _ ((whole-of (c .before .before .before .before .before .before .before .before .before .before .before .before .before .before .args .block .now) (c .before .before .before .before .before .before .before .before .before .before .before .before .before .before .args .numbers .now) (replicate 25600 0) (replicate 200 0) (record { for-steps = omega (arith, length-replicate {A = ℕ} 25600 0, c .before .before .before .before .before .before .before .before .before .before .if1 .left); for-ends = omega (arith, length-replicate {A = ℕ} 200 0, c .before .before .before .before .before .before .before .before .before .before .if1 .left) }) (c .before .before .before .before .before .before .before .before .before .before .if1 .left) _ _ _ _ (c .before .before .before .n .given .1) (c .before .before .before .before .before .before .before .build-all .ensures) (search needs)) .fits))
+slice-aggregate-put-pack-2 c =
+    sym (length-take-le _ _ ((whole-of (c .before .before .before .before .before .before .before .before .before .before .before .before .before .before .before .args .block .now) (c .before .before .before .before .before .before .before .before .before .before .before .before .before .before .before .args .numbers .now) (replicate 25600 0) (replicate 200 0) (record { for-steps = omega (arith, length-replicate {A = ℕ} 25600 0, c .before .before .before .before .before .before .before .before .before .before .before .if1 .left); for-ends = omega (arith, length-replicate {A = ℕ} 200 0, c .before .before .before .before .before .before .before .before .before .before .before .if1 .left) }) (c .before .before .before .before .before .before .before .before .before .before .before .if1 .left) _ _ _ _ _ (c .before .before .before .before .before .built .ensures) (c .before .before .before .n .given .1) (c .before .before .before .before .before .before .before .before .build-all .ensures) (search needs)) .fits))
 
 put-pack-requires : tie.Need-put-pack-requires
-put-pack-requires c κs = (whole-of (c .before .before .before .before .before .before .before .before .before .before .before .before .before .before .before .args .block .now) (c .before .before .before .before .before .before .before .before .before .before .before .before .before .before .before .args .numbers .now) (replicate 25600 0) (replicate 200 0) (record { for-steps = omega (arith, length-replicate {A = ℕ} 25600 0, c .before .before .before .before .before .before .before .before .before .before .before .if1 .left); for-ends = omega (arith, length-replicate {A = ℕ} 200 0, c .before .before .before .before .before .before .before .before .before .before .before .if1 .left) }) (c .before .before .before .before .before .before .before .before .before .before .before .if1 .left) _ _ _ _ (c .before .before .before .before .n .given .1) (c .before .before .before .before .before .before .before .before .build-all .ensures) (search needs)) .packed
+put-pack-requires c κs =
+    (whole-of (c .before .before .before .before .before .before .before .before .before .before .before .before .before .before .before .before .args .block .now) (c .before .before .before .before .before .before .before .before .before .before .before .before .before .before .before .before .args .numbers .now) (replicate 25600 0) (replicate 200 0) (record { for-steps = omega (arith, length-replicate {A = ℕ} 25600 0, c .before .before .before .before .before .before .before .before .before .before .before .before .if1 .left); for-ends = omega (arith, length-replicate {A = ℕ} 200 0, c .before .before .before .before .before .before .before .before .before .before .before .before .if1 .left) }) (c .before .before .before .before .before .before .before .before .before .before .before .before .if1 .left) _ _ _ _ _ (c .before .before .before .before .before .before .built .ensures) (c .before .before .before .before .n .given .1) (c .before .before .before .before .before .before .before .before .before .build-all .ensures) (search needs)) .packed
 
 enum-known-r : tie.Need-enum-known-r
 enum-known-r c = search needs
@@ -49,10 +57,12 @@ same-length : tie.Need-same-length
 same-length c = search needs
 
 returns-2 : tie.Need-returns-2
-returns-2 c = whole-built (c .before .before .before .before .before .before .before .before .before .before .before .before .before .before .before .before .before .before .args .block .now) (c .before .before .before .before .before .before .before .before .before .before .before .before .before .before .before .before .before .before .args .numbers .now) (replicate 25600 0) (replicate 200 0) (record { for-steps = omega (arith, length-replicate {A = ℕ} 25600 0, c .before .before .before .before .before .before .before .before .before .before .before .before .before .before .if1 .left); for-ends = omega (arith, length-replicate {A = ℕ} 200 0, c .before .before .before .before .before .before .before .before .before .before .before .before .before .before .if1 .left) }) (c .before .before .before .before .before .before .before .before .before .before .before .before .before .before .if1 .left) _ _ _ (whole-of (c .before .before .before .before .before .before .before .before .before .before .before .before .before .before .before .before .before .before .args .block .now) (c .before .before .before .before .before .before .before .before .before .before .before .before .before .before .before .before .before .before .args .numbers .now) (replicate 25600 0) (replicate 200 0) (record { for-steps = omega (arith, length-replicate {A = ℕ} 25600 0, c .before .before .before .before .before .before .before .before .before .before .before .before .before .before .if1 .left); for-ends = omega (arith, length-replicate {A = ℕ} 200 0, c .before .before .before .before .before .before .before .before .before .before .before .before .before .before .if1 .left) }) (c .before .before .before .before .before .before .before .before .before .before .before .before .before .before .if1 .left) _ _ _ _ (c .before .before .before .before .before .before .before .n .given .1) (c .before .before .before .before .before .before .before .before .before .before .before .build-all .ensures) (search needs)) _ _ _ (c .before .before .put-pack .ensures)
+returns-2 c =
+    whole-built (c .before .before .before .before .before .before .before .before .before .before .before .before .before .before .before .before .before .before .before .args .block .now) (c .before .before .before .before .before .before .before .before .before .before .before .before .before .before .before .before .before .before .before .args .numbers .now) (replicate 25600 0) (replicate 200 0) (record { for-steps = omega (arith, length-replicate {A = ℕ} 25600 0, c .before .before .before .before .before .before .before .before .before .before .before .before .before .before .before .if1 .left); for-ends = omega (arith, length-replicate {A = ℕ} 200 0, c .before .before .before .before .before .before .before .before .before .before .before .before .before .before .before .if1 .left) }) (c .before .before .before .before .before .before .before .before .before .before .before .before .before .before .before .if1 .left) _ _ _ (whole-of (c .before .before .before .before .before .before .before .before .before .before .before .before .before .before .before .before .before .before .before .args .block .now) (c .before .before .before .before .before .before .before .before .before .before .before .before .before .before .before .before .before .before .before .args .numbers .now) (replicate 25600 0) (replicate 200 0) (record { for-steps = omega (arith, length-replicate {A = ℕ} 25600 0, c .before .before .before .before .before .before .before .before .before .before .before .before .before .before .before .if1 .left); for-ends = omega (arith, length-replicate {A = ℕ} 200 0, c .before .before .before .before .before .before .before .before .before .before .before .before .before .before .before .if1 .left) }) (c .before .before .before .before .before .before .before .before .before .before .before .before .before .before .before .if1 .left) _ _ _ _ _ (c .before .before .before .before .before .before .before .before .before .built .ensures) (c .before .before .before .before .before .before .before .n .given .1) (c .before .before .before .before .before .before .before .before .before .before .before .before .build-all .ensures) (search needs)) _ _ _ (c .before .before .put-pack .ensures)
 
 returns-3 : tie.Need-returns-3
-returns-3 c = whole-refused (c .before .before .before .before .before .before .before .before .before .before .before .before .args .block .now) (c .before .before .before .before .before .before .before .before .before .before .before .before .args .numbers .now) (replicate 25600 0) (replicate 200 0) (record { for-steps = omega (arith, length-replicate {A = ℕ} 25600 0, c .before .before .before .before .before .before .before .before .if1 .left); for-ends = omega (arith, length-replicate {A = ℕ} 200 0, c .before .before .before .before .before .before .before .before .if1 .left) }) (c .before .before .before .before .before .before .before .before .if1 .left) _ _ _ _ _ (c .before .r .given .1) (c .before .before .before .before .before .build-all .ensures)
+returns-3 c =
+    whole-refused (c .before .before .before .before .before .before .before .before .before .before .before .before .before .args .block .now) (c .before .before .before .before .before .before .before .before .before .before .before .before .before .args .numbers .now) (replicate 25600 0) (replicate 200 0) (record { for-steps = omega (arith, length-replicate {A = ℕ} 25600 0, c .before .before .before .before .before .before .before .before .before .if1 .left); for-ends = omega (arith, length-replicate {A = ℕ} 200 0, c .before .before .before .before .before .before .before .before .before .if1 .left) }) (c .before .before .before .before .before .before .before .before .before .if1 .left) _ _ _ _ _ _ (c .before .before .before .built .ensures) (c .before .r .given .1) (c .before .before .before .before .before .before .build-all .ensures)
 
 pub write-spec : {M : Type 1} → statement M
 write-spec =
@@ -63,6 +73,7 @@ write-spec =
     slice-aggregate-build-all
     slice-aggregate-build-all-2
     build-all-requires
+    built-requires
     enum-known-n
     array-share-prefix-ends
     slice-aggregate-put-pack

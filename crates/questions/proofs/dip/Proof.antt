@@ -1,10 +1,10 @@
--- `questions::dip` meets its contract: by the job maker's answer, by the family, and by the edge's number. Assumes nothing.
+-- `questions::dip` meets its contract: by the job maker's answer, the count, the family, and the walk of the edge. Assumes nothing.
 use mathlib.Core.Path.{sym, ap, _∙_}
-use native.Mathlib.Omega.{arith}
 use borrow.Author.Needs.{needs}
-use Rattle.job.specs.Replies.{reply, numberSays}
+use borrow.Author.Tests.{not-true, not-false}
+use Rattle.job.specs.Replies.{countSays}
 use Rattle.job.proofs.Standing.{kept-of, told-of}
-use Rattle.questions.proofs.Dipping.{dip-told, dip-kind, dip-refused, dip-digits, dip-value}
+use Rattle.questions.proofs.Dipping.{dip-told, dip-over, dip-kind, dip-stops, dip-none, dip-digits, dip-value}
 use Rattle.questions.proofs.dip.Statement.{statement}
 use Rattle.questions.proofs.dip.Tie as tie
 
@@ -15,33 +15,53 @@ returns : tie.Need-returns
 returns c =
     dip-told (c .before .before .before .before .args .block .now) (c .before .before .before .before .args .edge .now) (told-of (c .before .before .before .before .args .block .now) (c .before .of .result) (c .before .of .ensures) (c .if1 .taken))
 
-kind-requires : tie.Need-kind-requires
-kind-requires c κs = search needs
-
-returns-2 : tie.Need-returns-2
-returns-2 c =
-    c .kind .ensures ∙ ap reply (dip-kind (c .before .before .before .before .before .before .before .before .args .block .now) (c .before .before .before .before .before .before .before .before .args .edge .now) (kept-of (c .before .before .before .before .before .before .before .before .args .block .now) (c .before .before .before .before .before .of .result) (λ i. omega (arith, c .before .before .before .before .before .before .before .shared-slice-known .given i)) (c .before .before .before .before .before .of .ensures) (c .before .before .before .before .if1 .left)) (omega (arith, c .before .if2 .taken)))
-
-number-requires : tie.Need-number-requires
-number-requires c κs = search needs
-
-enum-told : tie.Need-enum-told
-enum-told c = search needs
-
-first-rise-requires : tie.Need-first-rise-requires
-first-rise-requires c κs =
-    dip-digits (c .before .before .before .before .before .before .before .before .before .before .args .block .now) (c .before .before .before .before .before .before .before .before .before .before .args .edge .now) (kept-of (c .before .before .before .before .before .before .before .before .before .before .args .block .now) (c .before .before .before .before .before .before .before .of .result) (λ i. omega (arith, c .before .before .before .before .before .before .before .before .before .shared-slice-known .given i)) (c .before .before .before .before .before .before .before .of .ensures) (c .before .before .before .before .before .before .if1 .left)) (c .before .before .before .if2 .left) _ (sym (ap numberSays (c .enum-told .given .1)) ∙ c .before .before .number .ensures)
+count-requires : tie.Need-count-requires
+count-requires c κs = search needs
 
 enum-known-r : tie.Need-enum-known-r
 enum-known-r c = search needs
 
+returns-2 : tie.Need-returns-2
+returns-2 c =
+    dip-over (c .before .before .before .before .before .before .before .before .args .block .now) (c .before .before .before .before .before .before .before .before .args .edge .now) _ (sym (ap countSays (c .before .r .given .1)) ∙ c .before .before .before .count .ensures)
+
+enum-told : tie.Need-enum-told
+enum-told c = search needs
+
+is-paired-requires : tie.Need-is-paired-requires
+is-paired-requires c κs = search needs
+
 returns-3 : tie.Need-returns-3
 returns-3 c =
-    dip-value (c .before .before .before .before .before .before .before .before .before .before .before .args .block .now) (c .before .before .before .before .before .before .before .before .before .before .before .args .edge .now) (kept-of (c .before .before .before .before .before .before .before .before .before .before .before .args .block .now) (c .before .before .before .before .before .before .before .before .of .result) (λ i. omega (arith, c .before .before .before .before .before .before .before .before .before .before .shared-slice-known .given i)) (c .before .before .before .before .before .before .before .before .of .ensures) (c .before .before .before .before .before .before .before .if1 .left)) (c .before .before .before .before .if2 .left) _ (sym (ap numberSays (c .before .enum-told .given .1)) ∙ c .before .before .before .number .ensures) (c .first-rise .result) (c .first-rise .ensures)
+    dip-kind (c .before .before .before .before .before .before .before .before .before .before .args .block .now) (c .before .before .before .before .before .before .before .before .before .before .args .edge .now) (kept-of (c .before .before .before .before .before .before .before .before .before .before .args .block .now) (c .before .before .before .before .before .before .before .of .result) (λ i. c .before .before .before .before .before .before .before .before .before .shared-slice-known .given i .fits) (c .before .before .before .before .before .before .before .of .ensures) (c .before .before .before .before .before .before .if1 .left)) (sym (ap countSays (c .before .before .before .enum-told .given .1)) ∙ c .before .before .before .before .before .count .ensures) (sym (c .before .is-paired .ensures) ∙ not-true _ (c .if2 .taken))
+
+walk-requires : tie.Need-walk-requires
+walk-requires c κs = search needs
+
+enum-told-2 : tie.Need-enum-told-2
+enum-told-2 c = search needs
+
+first-rise-requires : tie.Need-first-rise-requires
+first-rise-requires c κs =
+    dip-digits (c .before .before .before .before .before .before .before .before .before .before .before .before .before .args .block .now) (c .before .before .before .before .before .before .before .before .before .before .before .before .before .args .edge .now) (kept-of (c .before .before .before .before .before .before .before .before .before .before .before .before .before .args .block .now) (c .before .before .before .before .before .before .before .before .before .before .of .result) (λ i. c .before .before .before .before .before .before .before .before .before .before .before .before .shared-slice-known .given i .fits) (c .before .before .before .before .before .before .before .before .before .before .of .ensures) (c .before .before .before .before .before .before .before .before .before .if1 .left)) (sym (ap countSays (c .before .before .before .before .before .before .enum-told .given .1)) ∙ c .before .before .before .before .before .before .before .before .count .ensures) (sym (c .before .before .before .before .is-paired .ensures) ∙ not-false _ (c .before .before .before .if2 .left)) (c .before .before .walk .result) (c .before .before .walk .ensures) (c .enum-told2 .given .1)
+
+enum-told-3 : tie.Need-enum-told-3
+enum-told-3 c = search needs
+
+enum-told-4 : tie.Need-enum-told-4
+enum-told-4 c = search needs
 
 returns-4 : tie.Need-returns-4
 returns-4 c =
-    dip-refused (c .before .before .before .before .before .before .before .before .before .before .before .args .block .now) (c .before .before .before .before .before .before .before .before .before .before .before .args .edge .now) (kept-of (c .before .before .before .before .before .before .before .before .before .before .before .args .block .now) (c .before .before .before .before .before .before .before .before .of .result) (λ i. omega (arith, c .before .before .before .before .before .before .before .before .before .before .shared-slice-known .given i)) (c .before .before .before .before .before .before .before .before .of .ensures) (c .before .before .before .before .before .before .before .if1 .left)) (c .before .before .before .before .if2 .left) _ (sym (ap numberSays (c .before .r .given .1)) ∙ c .before .before .before .number .ensures)
+    dip-value (c .before .before .before .before .before .before .before .before .before .before .before .before .before .before .args .block .now) (c .before .before .before .before .before .before .before .before .before .before .before .before .before .before .args .edge .now) (kept-of (c .before .before .before .before .before .before .before .before .before .before .before .before .before .before .args .block .now) (c .before .before .before .before .before .before .before .before .before .before .before .of .result) (λ i. c .before .before .before .before .before .before .before .before .before .before .before .before .before .shared-slice-known .given i .fits) (c .before .before .before .before .before .before .before .before .before .before .before .of .ensures) (c .before .before .before .before .before .before .before .before .before .before .if1 .left)) (sym (ap countSays (c .before .before .before .before .before .before .before .enum-told .given .1)) ∙ c .before .before .before .before .before .before .before .before .before .count .ensures) (sym (c .before .before .before .before .before .is-paired .ensures) ∙ not-false _ (c .before .before .before .before .if2 .left)) (c .before .before .before .walk .result) (c .before .before .before .walk .ensures) (c .before .enum-told2 .given .1) (c .first-rise .result) (c .first-rise .ensures)
+
+returns-5 : tie.Need-returns-5
+returns-5 c =
+    dip-stops (c .before .before .before .before .before .before .before .before .before .before .before .before .before .args .block .now) (c .before .before .before .before .before .before .before .before .before .before .before .before .before .args .edge .now) (kept-of (c .before .before .before .before .before .before .before .before .before .before .before .before .before .args .block .now) (c .before .before .before .before .before .before .before .before .before .before .of .result) (λ i. c .before .before .before .before .before .before .before .before .before .before .before .before .shared-slice-known .given i .fits) (c .before .before .before .before .before .before .before .before .before .before .of .ensures) (c .before .before .before .before .before .before .before .before .before .if1 .left)) (sym (ap countSays (c .before .before .before .before .before .before .enum-told .given .1)) ∙ c .before .before .before .before .before .before .before .before .count .ensures) (sym (c .before .before .before .before .is-paired .ensures) ∙ not-false _ (c .before .before .before .if2 .left)) (c .before .before .walk .result) (c .before .before .walk .ensures) (c .enum-told3 .given .1)
+
+returns-6 : tie.Need-returns-6
+returns-6 c =
+    absurd (dip-none (c .before .before .before .before .before .before .before .before .before .before .before .before .before .args .block .now) (c .before .before .before .before .before .before .before .before .before .before .before .before .before .args .edge .now) (kept-of (c .before .before .before .before .before .before .before .before .before .before .before .before .before .args .block .now) (c .before .before .before .before .before .before .before .before .before .before .of .result) (λ i. c .before .before .before .before .before .before .before .before .before .before .before .before .shared-slice-known .given i .fits) (c .before .before .before .before .before .before .before .before .before .before .of .ensures) (c .before .before .before .before .before .before .before .before .before .if1 .left)) (sym (ap countSays (c .before .before .before .before .before .before .enum-told .given .1)) ∙ c .before .before .before .before .before .before .before .before .count .ensures) (sym (c .before .before .before .before .is-paired .ensures) ∙ not-false _ (c .before .before .before .if2 .left)) (c .before .before .walk .result) (c .before .before .walk .ensures) (c .enum-told4 .given .1))
 
 pub dip-spec : {M : Type 1} → statement M
 dip-spec =
@@ -49,11 +69,17 @@ dip-spec =
     (tie.spec
     of-requires
     returns
-    kind-requires
-    returns-2
-    number-requires
-    enum-told
-    first-rise-requires
+    count-requires
     enum-known-r
+    returns-2
+    enum-told
+    is-paired-requires
     returns-3
-    returns-4)
+    walk-requires
+    enum-told-2
+    first-rise-requires
+    enum-told-3
+    enum-told-4
+    returns-4
+    returns-5
+    returns-6)

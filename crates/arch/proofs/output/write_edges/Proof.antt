@@ -10,8 +10,8 @@ use Rattle.arches.specs.Counts.{count}
 use Rattle.rules.specs.Questions.{allBelow}
 use Rattle.rules.proofs.Belows.{below-at}
 use Rattle.lines.proofs.Lining.{Lining, lining-none, lining-room, lining-part}
-use Rattle.arch.specs.Calls.{edgeBy}
 use Rattle.arch.proofs.Sizes.{more-le, left-one, in-table, byte-fits, next-fits, edge-fits, twice-most, twice-le, in-as-many}
+use Rattle.arch.proofs.Calls.{edgeBy}
 use Rattle.arch.proofs.Lined.{all-told, none-lined, next-lined, all-lined}
 use borrow.Author.Needs.{needs}
 use Rattle.arch.proofs.output.write_edges.Statement.{statement}
@@ -37,11 +37,11 @@ all-below-requires c κs =
 
 returns : tie.Need-returns Inv-loop μ-loop
 returns c =
-    none-lined (c .before .before .before .before .before .before .args .d) (c .before .before .before .before .before .before .args .v) (c .before .before .before .before .before .before .args .n) (c .before .before .before .before .before .before .args .numbers .now) _ _ (sym (all-told (c .before .before .before .before .before .before .args .d) (c .before .before .before .before .before .before .args .v) (c .before .before .before .before .before .before .args .n) (c .before .before .before .before .before .before .args .numbers .now) _ _ (c .before .before .before .before .before .before .pre .0) (c .before .all-below .ensures)) ∙ not-true _ (c .if1 .taken))
+    none-lined (c .before .before .before .before .before .before .pre .0) _ _ _ (sym (all-told (c .before .before .before .before .before .before .pre .0) (c .before .before .before .before .before .before .args .numbers .now) _ (c .before .all-below .ensures)) ∙ not-true _ (c .if1 .taken))
 
 loop-holds : tie.Need-loop-holds Inv-loop μ-loop
 loop-holds c =
-    (sym (all-told (c .before .before .before .before .before .before .args .d) (c .before .before .before .before .before .before .args .v) (c .before .before .before .before .before .before .args .n) (c .before .before .before .before .before .before .args .numbers .now) _ _ (c .before .before .before .before .before .before .pre .0) (c .before .all-below .ensures)) ∙ not-false _ (c .if1 .left), lining-none _ _ _ _ (c .before .before .before .before .before .before .pre .1))
+    (sym (all-told (c .before .before .before .before .before .before .pre .0) (c .before .before .before .before .before .before .args .numbers .now) _ (c .before .all-below .ensures)) ∙ not-false _ (c .if1 .left), lining-none _ _ _ _ (c .before .before .before .before .before .before .pre .1))
 
 sub-build : tie.Need-sub-build Inv-loop μ-loop
 sub-build c =
@@ -89,7 +89,7 @@ loop-less c =
 
 loop-again : tie.Need-loop-again Inv-loop μ-loop
 loop-again c =
-    (c .before .before .before .before .before .before .loop .inv .0, next-lined (c .before .before .before .before .before .before .before .before .before .before .before .before .before .args .d) (c .before .before .before .before .before .before .before .before .before .before .before .before .before .args .v) (c .before .before .before .before .before .before .before .before .before .before .before .before .before .args .n) (c .before .before .before .before .before .before .before .before .before .before .before .before .before .args .numbers .now) _ _ _ _ _ _ (c .before .before .before .before .before .before .loop .inv .1) _ _ (c .before .before .before .before .before .loop-test .taken) (twice-most _ (c .before .before .before .before .before .before .before .before .before .before .before .before .before .pre .0 .small)) (c .before .before .build .ensures))
+    (c .before .before .before .before .before .before .loop .inv .0, next-lined (c .before .before .before .before .before .before .before .before .before .before .before .before .before .pre .0) (c .before .before .before .before .before .before .before .before .before .before .before .before .before .args .numbers .now) _ _ _ _ _ _ (c .before .before .before .before .before .before .loop .inv .1) _ _ (c .before .before .before .before .before .loop-test .taken) (twice-most _ (c .before .before .before .before .before .before .before .before .before .before .before .before .before .pre .0 .small)) (c .before .before .build .ensures))
 
 same-length : tie.Need-same-length Inv-loop μ-loop
 same-length c =
@@ -101,7 +101,7 @@ same-length-2 c =
 
 returns-2 : tie.Need-returns-2 Inv-loop μ-loop
 returns-2 c =
-    all-lined _ _ _ _ _ _ _ _ _ _ (c .before .loop .inv .1) (c .before .loop .inv .0) (c .loop-test .left)
+    all-lined (c .before .before .before .before .before .before .before .before .pre .0) _ _ _ _ _ _ _ (c .before .loop .inv .1) (c .before .loop .inv .0) (c .loop-test .left)
 
 pub write-edges-spec : {M : Type 1} → statement M
 write-edges-spec =

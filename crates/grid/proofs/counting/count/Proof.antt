@@ -1,58 +1,42 @@
--- `grid::counting::count` meets its contract: the smallest size that has room is prepared. Assumes nothing.
-use Rattle.tables.proofs.Planning.{prepared-for, prepared-last, sizes-for}
+-- `grid::counting::count` meets its contract: by the shape's state, and then by the table's answer. Assumes nothing.
+use mathlib.Core.Path.{sym, ap}
+use native.Mathlib.Omega.{arith}
+use Rattle.tables.specs.Calls.{toldOf}
+use Rattle.tables.proofs.Counted.{state-none, state-working, counts-value, counts-told, plan-count}
+use Rattle.grid.proofs.Paired.{form-of, narrow-of}
 use borrow.Author.Needs.{needs}
 use Rattle.grid.proofs.counting.count.Statement.{statement}
 use Rattle.grid.proofs.counting.count.Tie as tie
 
-offsets-requires : tie.Need-offsets-requires
-offsets-requires c κs = search needs
-
-cells-of-requires : tie.Need-cells-of-requires
-cells-of-requires c κs = sizes-for (c .before .pre .0) (c .offsets .ensures)
-
-count-128-requires : tie.Need-count-128-requires
-count-128-requires c κs = (prepared-for (c .before .before .before .before .pre .0) (c .before .before .before .offsets .ensures) (c .before .before .cells-of .ensures) 128 (c .before .if1 .taken), c .before .before .before .before .pre .1)
-
 returns : tie.Need-returns
-returns c = search needs
+returns c = λ J r w. counts-value J 0 (state-none J _ w (c .if1 .taken)) (omega arith)
 
-count-384-requires : tie.Need-count-384-requires
-count-384-requires c κs = (prepared-for (c .before .before .before .before .before .pre .0) (c .before .before .before .before .offsets .ensures) (c .before .before .before .cells-of .ensures) 384 (c .before .if2 .taken), c .before .before .before .before .before .pre .1)
+plan-of-requires : tie.Need-plan-of-requires
+plan-of-requires c κs = form-of (c .if1 .left) (c .before .pre)
+
+count-walks-requires : tie.Need-count-walks-requires
+count-walks-requires c κs = (c .before .before .before .before .plan-of .ensures .planned, narrow-of (c .before .before .before .before .before .if1 .left) (c .before .before .before .before .plan-of .ensures) (c .before .before .before .before .before .before .pre))
+
+enum-known-c : tie.Need-enum-known-c
+enum-known-c c = search needs
+
+enum-told : tie.Need-enum-told
+enum-told c = search needs
 
 returns-2 : tie.Need-returns-2
-returns-2 c = search needs
-
-count-1280-requires : tie.Need-count-1280-requires
-count-1280-requires c κs = (prepared-for (c .before .before .before .before .before .before .pre .0) (c .before .before .before .before .before .offsets .ensures) (c .before .before .before .before .cells-of .ensures) 1280 (c .before .if3 .taken), c .before .before .before .before .before .before .pre .1)
+returns-2 c = λ J r w. counts-told J (plan-count J _ r (state-working J _ w (c .before .before .before .before .before .before .before .before .before .if1 .left) .fits) (c .before .before .before .before .before .before .before .before .plan-of .ensures)) (c .before .before .before .count-walks .ensures) (ap toldOf (sym (c .before .c .given .1)))
 
 returns-3 : tie.Need-returns-3
-returns-3 c = search needs
-
-count-2496-requires : tie.Need-count-2496-requires
-count-2496-requires c κs = (prepared-for (c .before .before .before .before .before .before .before .pre .0) (c .before .before .before .before .before .before .offsets .ensures) (c .before .before .before .before .before .cells-of .ensures) 2496 (c .before .if4 .taken), c .before .before .before .before .before .before .before .pre .1)
-
-returns-4 : tie.Need-returns-4
-returns-4 c = search needs
-
-count-3712-requires : tie.Need-count-3712-requires
-count-3712-requires c κs = (prepared-last (c .before .before .before .before .before .before .before .pre .0) (c .before .before .before .before .before .before .offsets .ensures), c .before .before .before .before .before .before .before .pre .1)
-
-returns-5 : tie.Need-returns-5
-returns-5 c = search needs
+returns-3 c = λ J r w. counts-told J (plan-count J _ r (state-working J _ w (c .before .before .before .before .before .before .before .before .if1 .left) .fits) (c .before .before .before .before .before .before .before .plan-of .ensures)) (c .before .before .count-walks .ensures) (ap toldOf (sym (c .enum-told .given .1)))
 
 pub count-spec : {M : Type 1} → statement M
 count-spec =
     tie.close
     (tie.spec
-    offsets-requires
-    cells-of-requires
-    count-128-requires
     returns
-    count-384-requires
+    plan-of-requires
+    count-walks-requires
+    enum-known-c
+    enum-told
     returns-2
-    count-1280-requires
-    returns-3
-    count-2496-requires
-    returns-4
-    count-3712-requires
-    returns-5)
+    returns-3)

@@ -1,13 +1,13 @@
--- `grid::numbering::number_in` meets its contract: by the table's answer and the edge read. Assumes nothing.
+-- `grid::numbering::number_in` meets its contract: by the table's answer and the edges read. Assumes nothing.
 use mathlib.Core.Bool.{false}
-use Rattle.tables.proofs.Phases.{filled-over, filled-full}
-use Rattle.tables.proofs.Tabled.{table-over}
+use Rattle.tables.proofs.Phases.{filled-over, filled-count, filled-full}
+use Rattle.tables.proofs.Tabled.{ranks-over, ranks-fit}
 use borrow.Author.Needs.{needs}
 use Rattle.grid.proofs.numbering.number_in.Statement.{statement}
 use Rattle.grid.proofs.numbering.number_in.Tie as tie
 
 fill-requires : tie.Need-fill-requires
-fill-requires c κs = search needs
+fill-requires c κs = (c .before .before .before .before .before .pre .0, c .before .before .before .before .before .pre .1)
 
 enum-told : tie.Need-enum-told
 enum-told c = search needs
@@ -16,21 +16,22 @@ same-length : tie.Need-same-length
 same-length c = search needs
 
 returns : tie.Need-returns
-returns c =
-    table-over false (c .before .before .before .before .before .before .before .before .args .p) _ _ _ (filled-over (c .before .before .before .before .fill .ensures) (c .enum-told .given .1))
+returns c = ranks-over false (c .before .before .before .before .before .before .before .before .before .before .args .p) _ _ _ _ (filled-over (c .before .before .before .before .fill .ensures) (c .enum-told .given .1))
 
 enum-told-2 : tie.Need-enum-told-2
 enum-told-2 c = search needs
 
-read-requires : tie.Need-read-requires
-read-requires c κs =
-    filled-full (c .before .before .before .before .before .fill .ensures) (c .before .enum-told2 .given .1) (c .before .before .before .before .before .before .before .before .before .pre .0) (search needs)
+number-each-requires : tie.Need-number-each-requires
+number-each-requires c κs = (filled-full (c .before .before .before .before .before .before .fill .ensures) (c .before .before .enum-told2 .given .1) (c .before .before .before .before .before .before .before .before .before .before .before .before .pre .0) (search needs), c .before .before .before .before .before .before .before .before .before .before .before .before .pre .2)
 
 same-length-2 : tie.Need-same-length-2
 same-length-2 c = search needs
 
+same-length-3 : tie.Need-same-length-3
+same-length-3 c = search needs
+
 returns-2 : tie.Need-returns-2
-returns-2 c = search needs
+returns-2 c = ranks-fit false (c .before .before .before .before .before .before .before .before .before .before .before .before .before .before .before .args .p) _ _ _ _ _ _ (filled-count (c .before .before .before .before .before .before .before .before .before .fill .ensures) (c .before .before .before .before .before .enum-told2 .given .1) .1) (c .before .before .number-each .ensures)
 
 pub number-in-spec : {M : Type 1} → statement M
 number-in-spec =
@@ -41,6 +42,7 @@ number-in-spec =
     same-length
     returns
     enum-told-2
-    read-requires
+    number-each-requires
     same-length-2
+    same-length-3
     returns-2)

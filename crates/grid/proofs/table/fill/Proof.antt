@@ -16,7 +16,7 @@ fast-requires : tie.Need-fast-requires
 fast-requires c κs = search needs
 
 rest-requires : tie.Need-rest-requires
-rest-requires c κs = (record { ready = ready-len (c .before .before .before .before .before .before .before .before .before .before .before .before .before .before .before .pre .0 .ready) (omega arith); table = c .before .before .before .before .before .before .before .fast .ensures .table; start = c .before .before .before .before .before .before .before .fast .ensures .start; end = c .before .before .before .if1 .taken }, c .before .before .before .before .before .before .before .before .before .before .before .spans .ensures)
+rest-requires c κs = (record { ready = ready-len (c .before .before .before .before .before .before .before .before .before .before .before .before .before .before .before .pre .0 .ready) (c .before .before .before .before .before .before .val .given); table = c .before .before .before .before .before .before .before .fast .ensures .table; start = c .before .before .before .before .before .before .before .fast .ensures .start; end = c .before .before .before .if1 .taken }, c .before .before .before .before .before .before .before .before .before .before .before .spans .ensures)
 
 same-length : tie.Need-same-length
 same-length c = search needs
@@ -52,7 +52,7 @@ same-length-2 : tie.Need-same-length-2
 same-length-2 c = search needs
 
 returns-2 : tie.Need-returns-2
-returns-2 c = got-filled (c .before .before .before .before .before .before .before .before .before .fast .ensures) (omega arith) (λ j. omega (arith, c .before .before .before .before .before .before .before .slice-known2 .given j)) refl (place-sum _ _ _ _)
+returns-2 c = got-filled (c .before .before .before .before .before .before .before .before .before .fast .ensures) (omega arith) (λ j. c .before .before .before .before .before .before .before .slice-known2 .given j .fits) refl (place-sum _ _ _ _)
 
 pub fill-spec : {M : Type 1} → statement M
 fill-spec =

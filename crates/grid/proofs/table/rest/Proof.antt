@@ -5,7 +5,7 @@ use native.Mathlib.Omega.{arith}
 use borrow.Author.Needs.{needs}
 use lib.ListN.{length}
 use Rattle.tables.specs.Plans.{PreparedFor, FlaggedFor}
-use Rattle.tables.proofs.Phases.{ready-len, resume, flagged-filled, end-cells, end-room}
+use Rattle.tables.proofs.Phases.{ready-len, end-placed, resume, flagged-filled, end-cells, end-room}
 use Rattle.grid.proofs.table.rest.Statement.{statement}
 use Rattle.grid.proofs.table.rest.Tie as tie
 
@@ -17,7 +17,7 @@ abbrev μ-loop : tie.MeasureT-loop
 μ-loop val₀ sa sc off starts stops p first ex ov₀ x₀ val ov x = p .ex + 1 - x
 
 loop-holds : tie.Need-loop-holds Inv-loop μ-loop
-loop-holds c = (c .before .pre .0 .start, omega (arith, c .before .pre .0 .end), refl, refl, c .before .pre .0 .ready, resume (c .before .args .val .now) (c .before .pre .0 .table) (λ j. omega (arith, c .slice-known .given j)))
+loop-holds c = (c .before .pre .0 .start, omega (arith, c .before .pre .0 .end), refl, refl, c .before .pre .0 .ready, resume (c .before .args .val .now) (c .before .pre .0 .table) (λ j. c .slice-known .given j .fits))
 
 slice-aggregate-turn : tie.Need-slice-aggregate-turn Inv-loop μ-loop
 slice-aggregate-turn c = search needs
@@ -38,22 +38,22 @@ slice-aggregate-cell : tie.Need-slice-aggregate-cell Inv-loop μ-loop
 slice-aggregate-cell c = search needs
 
 add-cell : tie.Need-add-cell Inv-loop μ-loop
-add-cell c = let p = c .before .before .before .loop .inv .4 .sizes in let q = end-cells (c .before .before .before .loop .inv .4) in omega arith
+add-cell c = record { fits = end-placed (c .before .before .before .loop .inv .4 .sizes) .next }
 
 add-cell-2 : tie.Need-add-cell-2 Inv-loop μ-loop
-add-cell-2 c = let p = c .before .before .before .before .loop .inv .4 .sizes in let q = end-cells (c .before .before .before .before .loop .inv .4) in omega arith
+add-cell-2 c = record { fits = end-placed (c .before .before .before .before .loop .inv .4 .sizes) .tall }
 
 add-cell-3 : tie.Need-add-cell-3 Inv-loop μ-loop
-add-cell-3 c = let p = c .before .before .before .before .loop .inv .4 .sizes in let q = end-cells (c .before .before .before .before .loop .inv .4) in omega arith
+add-cell-3 c = record { fits = end-placed (c .before .before .before .before .loop .inv .4 .sizes) .stride }
 
 mul-cell : tie.Need-mul-cell Inv-loop μ-loop
-mul-cell c = let p = c .before .before .before .before .loop .inv .4 .sizes in let q = end-cells (c .before .before .before .before .loop .inv .4) in omega arith
+mul-cell c = record { fits = end-placed (c .before .before .before .before .loop .inv .4 .sizes) .column }
 
 add-cell-4 : tie.Need-add-cell-4 Inv-loop μ-loop
-add-cell-4 c = let p = c .before .before .before .before .before .loop .inv .4 .sizes in let q = end-cells (c .before .before .before .before .before .loop .inv .4) in omega arith
+add-cell-4 c = record { fits = end-placed (c .before .before .before .before .before .loop .inv .4 .sizes) .base }
 
 add-cell-5 : tie.Need-add-cell-5 Inv-loop μ-loop
-add-cell-5 c = let p = c .before .before .before .before .before .before .loop .inv .4 .sizes in let q = end-cells (c .before .before .before .before .before .before .loop .inv .4) in omega arith
+add-cell-5 c = record { fits = end-placed (c .before .before .before .before .before .before .loop .inv .4 .sizes) .cell }
 
 cell-requires : tie.Need-cell-requires Inv-loop μ-loop
 cell-requires c κs = let q = end-cells (c .before .before .before .before .before .before .loop .inv .4) in let r = end-room (c .before .before .before .before .before .before .loop .inv .4) in (omega arith, omega arith)

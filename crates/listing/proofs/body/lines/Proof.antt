@@ -5,8 +5,8 @@ use native.Mathlib.Nat.{min-le-right}
 use native.Mathlib.Omega.{arith}
 use lib.ListN.{replicate, length-replicate}
 use lib.Seq.{length-take-le}
-use Rattle.listing.proofs.Telling.{lines-ready, lines-told, lines-never}
 use borrow.Author.Needs.{needs}
+use Rattle.listing.proofs.Telling.{lines-ready, lines-told, lines-never}
 use Rattle.listing.proofs.body.lines.Statement.{statement}
 use Rattle.listing.proofs.body.lines.Tie as tie
 
@@ -23,7 +23,8 @@ array-share-prefix-numbers : tie.Need-array-share-prefix-numbers
 array-share-prefix-numbers c = search needs
 
 slice-aggregate-build-all : tie.Need-slice-aggregate-build-all
-slice-aggregate-build-all c = sym (length-take-le _ _ (omega (arith, c .before .shown-of .ensures, min-le-right (c .before .before .before .before .before .before .before .args .count) 1000)))
+slice-aggregate-build-all c =
+    sym (length-take-le _ _ (omega (arith, c .before .shown-of .ensures, min-le-right (c .before .before .before .before .before .before .before .args .count) 1000)))
 
 slice-aggregate-build-all-2 : tie.Need-slice-aggregate-build-all-2
 slice-aggregate-build-all-2 c = search needs
@@ -33,6 +34,9 @@ slice-aggregate-build-all-3 c = search needs
 
 build-all-requires : tie.Need-build-all-requires
 build-all-requires c κs = search needs
+
+built-requires : tie.Need-built-requires
+built-requires c κs = search needs
 
 enum-told : tie.Need-enum-told
 enum-told c = search needs
@@ -44,7 +48,8 @@ slice-aggregate-lines-of-2 : tie.Need-slice-aggregate-lines-of-2
 slice-aggregate-lines-of-2 c = search needs
 
 lines-of-requires : tie.Need-lines-of-requires
-lines-of-requires c κs = lines-ready _ _ (c .before .before .before .before .before .before .before .before .before .before .before .before .before .before .before .before .before .pre .counted) _ (c .before .before .before .before .before .before .before .before .before .before .before .before .before .count-up .ensures) (omega arith) _ (c .before .before .before .before .before .before .before .before .before .before .before .shown-of .ensures) (replicate 128000 0) (replicate 1000 0) (length-replicate {A = ℕ} 128000 0) (length-replicate {A = ℕ} 1000 0) _ _ _ (c .before .before .before .before .before .before .before .build-all .ensures) _ _ (omega arith) (c .before .before .before .before .before .before .before .before .before .before .before .before .before .before .before .before .before .pre .room)
+lines-of-requires c κs =
+    lines-ready _ _ (c .before .before .before .before .before .before .before .before .before .before .before .before .before .before .before .before .before .before .pre .counted) _ (c .before .before .before .before .before .before .before .before .before .before .before .before .before .before .count-up .ensures) (omega arith) _ (c .before .before .before .before .before .before .before .before .before .before .before .before .shown-of .ensures) (replicate 128000 0) (replicate 1000 0) (length-replicate {A = ℕ} 128000 0) (length-replicate {A = ℕ} 1000 0) _ _ _ _ (c .before .before .before .before .before .built .ensures) (c .before .before .before .before .before .before .before .before .build-all .ensures) _ _ (omega arith) (c .before .before .before .before .before .before .before .before .before .before .before .before .before .before .before .before .before .before .pre .room)
 
 enum-told-2 : tie.Need-enum-told-2
 enum-told-2 c = search needs
@@ -53,10 +58,12 @@ same-length : tie.Need-same-length
 same-length c = search needs
 
 returns : tie.Need-returns
-returns c = lines-told _ _ (c .before .before .before .before .before .before .before .before .before .before .before .before .before .before .before .before .before .before .before .before .pre .counted) _ (c .before .before .before .before .before .before .before .before .before .before .before .before .before .before .before .before .count-up .ensures) (omega arith) _ (c .before .before .before .before .before .before .before .before .before .before .before .before .before .before .shown-of .ensures) (replicate 128000 0) (replicate 1000 0) (length-replicate {A = ℕ} 128000 0) (length-replicate {A = ℕ} 1000 0) _ _ _ (c .before .before .before .before .before .before .before .before .before .before .build-all .ensures) (c .before .before .lines-of .ensures)
+returns c =
+    lines-told _ _ (c .before .before .before .before .before .before .before .before .before .before .before .before .before .before .before .before .before .before .before .before .before .pre .counted) _ (c .before .before .before .before .before .before .before .before .before .before .before .before .before .before .before .before .before .count-up .ensures) (omega arith) _ (c .before .before .before .before .before .before .before .before .before .before .before .before .before .before .before .shown-of .ensures) (replicate 128000 0) (replicate 1000 0) (length-replicate {A = ℕ} 128000 0) (length-replicate {A = ℕ} 1000 0) _ _ _ _ (c .before .before .before .before .before .before .before .before .built .ensures) (c .before .before .before .before .before .before .before .before .before .before .before .build-all .ensures) (c .before .before .lines-of .ensures)
 
 returns-2 : tie.Need-returns-2
-returns-2 c = absurd (lines-never _ _ (c .before .before .before .before .before .before .before .before .before .before .before .before .before .before .pre .counted) _ (c .before .before .before .before .before .before .before .before .before .before .count-up .ensures) (omega arith) _ (c .before .before .before .before .before .before .before .before .shown-of .ensures) (replicate 128000 0) (replicate 1000 0) (length-replicate {A = ℕ} 128000 0) (length-replicate {A = ℕ} 1000 0) _ _ _ (c .before .before .before .before .build-all .ensures) _ (c .enum-told2 .given .1))
+returns-2 c =
+    absurd (lines-never _ _ (c .before .before .before .before .before .before .before .before .before .before .before .before .before .before .before .pre .counted) _ (c .before .before .before .before .before .before .before .before .before .before .before .count-up .ensures) (omega arith) _ (c .before .before .before .before .before .before .before .before .before .shown-of .ensures) (replicate 128000 0) (replicate 1000 0) (length-replicate {A = ℕ} 128000 0) (length-replicate {A = ℕ} 1000 0) _ _ _ _ (c .before .before .built .ensures) (c .before .before .before .before .before .build-all .ensures) _ (c .enum-told2 .given .1))
 
 pub lines-spec : {M : Type 1} → statement M
 lines-spec =
@@ -70,6 +77,7 @@ lines-spec =
     slice-aggregate-build-all-2
     slice-aggregate-build-all-3
     build-all-requires
+    built-requires
     enum-told
     slice-aggregate-lines-of
     slice-aggregate-lines-of-2

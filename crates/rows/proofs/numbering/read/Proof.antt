@@ -4,15 +4,15 @@ use mathlib.Core.Path.{refl, sym, _∙_}
 use mathlib.Core.Bool.{true}
 use native.Mathlib.Omega.{arith}
 use borrow.Author.Tests.{not-true, not-false}
-use Rattle.rows.specs.Corners.{cornerPlan, cornerRight, cornerUp, cornerBack}
+use Rattle.rows.specs.Plains.{plainPlan, plainRight, plainUp, plainBack}
 use Rattle.tables.proofs.Numbers.{Walking, last-in, ends-fit, not-start, walking-end}
-use Rattle.rows.proofs.Cornering.{east-up, back-small, read-start, not-left, not-north, north-taken, not-east, east-near, east-taken, not-across, across-far, across-near, across-taken}
+use Rattle.rows.proofs.PlainRows.{east-up, back-small, read-start, not-left, not-north, north-taken, not-east, east-near, east-taken, not-across, across-far, across-near, across-taken}
 use Rattle.rows.proofs.numbering.read.Statement.{statement}
 use Rattle.rows.proofs.numbering.read.Tie as tie
 
 abbrev Inv-loop : tie.InvT-loop
 Inv-loop val c e up-n up-e north east acc₀ x₀ y₀ at₀ i₀ acc x y at i =
-    Walking true (cornerPlan c) (cornerRight c) (cornerUp c) (cornerBack c) val e acc x y at i
+    Walking true (plainPlan c) (plainRight c) (plainUp c) (plainBack c) val e acc x y at i
 
 abbrev μ-loop : tie.MeasureT-loop
 μ-loop val c e up-n up-e north east acc₀ x₀ y₀ at₀ i₀ acc x y at i = i

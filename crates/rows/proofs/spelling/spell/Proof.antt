@@ -1,16 +1,16 @@
 -- `rows::spelling::spell` meets its contract: at each step what is written so far and what is left make up the edge. The loop knows
--- no corner, only numbers, so what it keeps holds of every corner that gives these. Assumes nothing.
+-- no plain, only numbers, so what it keeps holds of every plain that gives these. Assumes nothing.
 use mathlib.Core.Path.{_≡_, refl}
 use native.Mathlib.Omega.{arith}
 use lib.ListN.{length, length-set}
-use Rattle.rows.specs.declared.corner.Corner.{Corner}
-use Rattle.rows.proofs.Cornering.{back-small, Given, Spelt, spelt-start, spelt-room, spelt-near, north-added, east-added, across-added, spelt-end}
+use Rattle.rows.specs.declared.plain.Plain.{Plain}
+use Rattle.rows.proofs.PlainRows.{back-small, Given, Spelt, spelt-start, spelt-room, spelt-near, north-added, east-added, across-added, spelt-end}
 use Rattle.rows.proofs.spelling.spell.Statement.{statement}
 use Rattle.rows.proofs.spelling.spell.Tie as tie
 
 abbrev Inv-loop : tie.InvT-loop
 Inv-loop val r buf₀ north east x₀ at₀ left₀ s₀ buf x at left s =
-    (length buf ≡ length buf₀) × ((c : Corner) → Given c val r buf₀ north east x₀ at₀ → Spelt c val r buf₀ buf x at left s)
+    (length buf ≡ length buf₀) × ((c : Plain) → Given c val r buf₀ north east x₀ at₀ → Spelt c val r buf₀ buf x at left s)
 
 abbrev μ-loop : tie.MeasureT-loop
 μ-loop val r buf₀ north east x₀ at₀ left₀ s₀ buf x at left s = x

@@ -5,14 +5,14 @@ use lib.ListN.{length}
 use Rattle.howmany.proofs.Choices.{holds}
 use Rattle.rules.proofs.Belows.{below-at}
 use Rattle.lines.proofs.Lining.{Lining, lining-none, lining-room, lining-part, lining-all}
-use Rattle.rows.specs.Corners.{cornerEdge}
+use Rattle.rows.specs.Plains.{plainEdge}
 use Rattle.tables.proofs.Builds.{front-next}
 use borrow.Author.Needs.{needs}
 use Rattle.rows.proofs.spelling.spell_all.Statement.{statement}
 use Rattle.rows.proofs.spelling.spell_all.Tie as tie
 
 abbrev Inv-loop : tie.InvT-loop
-Inv-loop val c numbers steps₀ ends₀ at₀ i₀ steps ends at i = Lining (cornerEdge c) numbers steps₀ ends₀ i at steps ends
+Inv-loop val c numbers steps₀ ends₀ at₀ i₀ steps ends at i = Lining (plainEdge c) numbers steps₀ ends₀ i at steps ends
 
 abbrev μ-loop : tie.MeasureT-loop
 μ-loop val c numbers steps₀ ends₀ at₀ i₀ steps ends at i = length numbers - i

@@ -2,7 +2,7 @@
 use mathlib.Core.Path.{_∙_}
 use borrow.Author.Tests.{not-true, not-false}
 use mathlib.Core.Bool.{true}
-use Rattle.rows.specs.Corners.{cornerPlan}
+use Rattle.rows.specs.Plains.{plainPlan}
 use Rattle.tables.proofs.Phases.{filled-over, filled-count, filled-full}
 use Rattle.tables.proofs.Builds.{below-told, for-over, for-beyond, for-all}
 use borrow.Author.Needs.{needs}
@@ -24,7 +24,7 @@ same-length c = search needs
 
 returns : tie.Need-returns
 returns c =
-    for-over true (cornerPlan (c .before .before .before .before .before .before .before .before .before .before .args .c)) _ _ _ _ _ (filled-over (c .before .before .before .before .fill-rows .ensures) (c .enum-told .given .1))
+    for-over true (plainPlan (c .before .before .before .before .before .before .before .before .before .before .args .c)) _ _ _ _ _ (filled-over (c .before .before .before .before .fill-rows .ensures) (c .enum-told .given .1))
 
 all-below-requires : tie.Need-all-below-requires
 all-below-requires c κs = search needs
@@ -34,7 +34,7 @@ same-length-2 c = search needs
 
 returns-2 : tie.Need-returns-2
 returns-2 c =
-    for-beyond true (cornerPlan (c .before .before .before .before .before .before .before .before .before .before .before .before .before .args .c)) _ _ _ _ _ (filled-count (c .before .before .before .before .before .before .before .fill-rows .ensures) (c .before .before .before .w .given .1) .1) (below-told (c .before .before .before .before .before .before .before .before .before .before .before .before .before .args .numbers .now) _ _ _ (filled-count (c .before .before .before .before .before .before .before .fill-rows .ensures) (c .before .before .before .w .given .1) .0) (c .before .all-below .ensures) ∙ not-true _ (c .if1 .taken))
+    for-beyond true (plainPlan (c .before .before .before .before .before .before .before .before .before .before .before .before .before .args .c)) _ _ _ _ _ (filled-count (c .before .before .before .before .before .before .before .fill-rows .ensures) (c .before .before .before .w .given .1) .1) (below-told (c .before .before .before .before .before .before .before .before .before .before .before .before .before .args .numbers .now) _ _ _ (filled-count (c .before .before .before .before .before .before .before .fill-rows .ensures) (c .before .before .before .w .given .1) .0) (c .before .all-below .ensures) ∙ not-true _ (c .if1 .taken))
 
 spell-all-requires : tie.Need-spell-all-requires
 spell-all-requires c κs =
@@ -51,7 +51,7 @@ same-length-5 c = search needs
 
 returns-3 : tie.Need-returns-3
 returns-3 c =
-    for-all true (cornerPlan (c .before .before .before .before .before .before .before .before .before .before .before .before .before .before .before .before .before .before .before .before .before .args .c)) _ _ _ _ _ _ _ _ (filled-count (c .before .before .before .before .before .before .before .before .before .before .before .before .before .before .before .fill-rows .ensures) (c .before .before .before .before .before .before .before .before .before .before .before .w .given .1) .1) (below-told (c .before .before .before .before .before .before .before .before .before .before .before .before .before .before .before .before .before .before .before .before .before .args .numbers .now) _ _ _ (filled-count (c .before .before .before .before .before .before .before .before .before .before .before .before .before .before .before .fill-rows .ensures) (c .before .before .before .before .before .before .before .before .before .before .before .w .given .1) .0) (c .before .before .before .before .before .before .before .before .before .all-below .ensures) ∙ not-false _ (c .before .before .before .before .before .before .before .before .if1 .left)) (c .before .before .before .before .spell-all .ensures)
+    for-all true (plainPlan (c .before .before .before .before .before .before .before .before .before .before .before .before .before .before .before .before .before .before .before .before .before .args .c)) _ _ _ _ _ _ _ _ (filled-count (c .before .before .before .before .before .before .before .before .before .before .before .before .before .before .before .fill-rows .ensures) (c .before .before .before .before .before .before .before .before .before .before .before .w .given .1) .1) (below-told (c .before .before .before .before .before .before .before .before .before .before .before .before .before .before .before .before .before .before .before .before .before .args .numbers .now) _ _ _ (filled-count (c .before .before .before .before .before .before .before .before .before .before .before .before .before .before .before .fill-rows .ensures) (c .before .before .before .before .before .before .before .before .before .before .before .w .given .1) .0) (c .before .before .before .before .before .before .before .before .before .all-below .ensures) ∙ not-false _ (c .before .before .before .before .before .before .before .before .if1 .left)) (c .before .before .before .before .spell-all .ensures)
 
 pub spell-in-spec : {M : Type 1} → statement M
 spell-in-spec =

@@ -6,19 +6,19 @@ use lib.ListN.{length}
 use borrow.Author.Needs.{needs}
 use borrow.Author.Tests.{not-false, not-true}
 use Rattle.rows.specs.Rows.{RowsFor}
-use Rattle.rows.specs.Corners.{cornerPlan, cornerRight, cornerUp, CornerReady}
+use Rattle.rows.specs.Plains.{plainPlan, plainRight, plainUp, PlainReady}
 use Rattle.tables.proofs.Phases.{ready-len}
 use Rattle.rows.proofs.Along.{rows-none, risen-of, risen-over}
-use Rattle.rows.proofs.Corners.{corner-steps}
+use Rattle.rows.proofs.Plains.{plain-steps}
 use Rattle.rows.proofs.table.all_rows.Statement.{statement}
 use Rattle.rows.proofs.table.all_rows.Tie as tie
 
 abbrev Inv-loop : tie.InvT-loop
 Inv-loop val₀ c ey y₀ val y =
-    (length val ≡ length val₀) × (y ≤ cornerPlan c .ey + 1) × CornerReady c (length val) × RowsFor (cornerPlan c) (cornerRight c) (cornerUp c) val y 0
+    (length val ≡ length val₀) × (y ≤ plainPlan c .ey + 1) × PlainReady c (length val) × RowsFor (plainPlan c) (plainRight c) (plainUp c) val y 0
 
 abbrev μ-loop : tie.MeasureT-loop
-μ-loop val₀ c ey y₀ val y = cornerPlan c .ey + 1 - y
+μ-loop val₀ c ey y₀ val y = plainPlan c .ey + 1 - y
 
 lesser-requires : tie.Need-lesser-requires Inv-loop μ-loop
 lesser-requires c κs =
@@ -30,7 +30,7 @@ loop-holds c =
 
 row-requires : tie.Need-row-requires Inv-loop μ-loop
 row-requires c κs =
-    record { ready = c .before .before .loop .inv .2; steps = corner-steps (c .before .before .before .before .before .args .c); rows = c .before .before .loop .inv .3; inside = (omega (arith, c .before .loop-test .taken, c .before .before .before .lesser .ensures)) }
+    record { ready = c .before .before .loop .inv .2; steps = plain-steps (c .before .before .before .before .before .args .c); rows = c .before .before .loop .inv .3; inside = (omega (arith, c .before .loop-test .taken, c .before .before .before .lesser .ensures)) }
 
 same-length : tie.Need-same-length Inv-loop μ-loop
 same-length c = search needs
@@ -56,7 +56,7 @@ same-length-2 c = search needs
 
 returns-2 : tie.Need-returns-2 Inv-loop μ-loop
 returns-2 c =
-    risen-of (c .before .loop .inv .2) (corner-steps (c .before .before .before .before .args .c)) (c .before .loop .inv .3) (omega (arith, c .before .loop .inv .1, c .loop-test .left, c .before .before .lesser .ensures))
+    risen-of (c .before .loop .inv .2) (plain-steps (c .before .before .before .before .args .c)) (c .before .loop .inv .3) (omega (arith, c .before .loop .inv .1, c .loop-test .left, c .before .before .lesser .ensures))
 
 pub all-rows-spec : {M : Type 1} → statement M
 all-rows-spec =

@@ -6,16 +6,16 @@ use lib.Dec.{T}
 use native.Mathlib.Omega.{arith}
 use borrow.Author.Needs.{needs}
 use lib.ListN.{length, length-set}
-use Rattle.corners.proofs.Wraps.{wrap-out, wrapped-in, wrapped-out, wrapped-fits}
-use Rattle.rows.specs.Corners.{cornerPlan, cornerRight, cornerUp, cornerBack}
+use Rattle.plains.proofs.Wraps.{wrap-out, wrapped-in, wrapped-out, wrapped-fits}
+use Rattle.rows.specs.Plains.{plainPlan, plainRight, plainUp, plainBack}
 use Rattle.rows.proofs.Along.{Along, row-at, row-small, row-far, first-fits, along-in, along-small, along-far, along-done, next-in, next-small}
-use Rattle.rows.proofs.Cornering.{row-place, row-start, row-over, row-next}
+use Rattle.rows.proofs.PlainRows.{row-place, row-start, row-over, row-next}
 use Rattle.rows.proofs.table.row.Statement.{statement}
 use Rattle.rows.proofs.table.row.Tie as tie
 
 abbrev Inv-loop : tie.InvT-loop
 Inv-loop val₀ c y stride n at₀ sum₀ i₀ val at sum i =
-    (length val ≡ length val₀) × (sum < 2 ^ 64) × Along (cornerPlan c) (cornerRight c) (cornerUp c) (cornerBack c) y val at sum i
+    (length val ≡ length val₀) × (sum < 2 ^ 64) × Along (plainPlan c) (plainRight c) (plainUp c) (plainBack c) y val at sum i
 
 abbrev μ-loop : tie.MeasureT-loop
 μ-loop val₀ c y stride n at₀ sum₀ i₀ val at sum i = n - i

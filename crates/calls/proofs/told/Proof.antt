@@ -1,0 +1,16 @@
+-- `calls::told` meets its contract by its test. Assumes nothing.
+use mathlib.Core.Path.{refl}
+use borrow.Author.Tests.{eq-eqb, ne-eqb}
+use Rattle.calls.proofs.told.Statement.{statement}
+use Rattle.calls.proofs.told.Tie as tie
+
+returns : tie.Need-returns
+returns c =
+    rw (eq-eqb _ _ (c .if1 .taken)) refl
+
+returns-2 : tie.Need-returns-2
+returns-2 c =
+    rw (ne-eqb _ _ (c .if1 .left)) refl
+
+pub told-spec : {M : Type 1} → statement M
+told-spec = tie.close (tie.spec returns returns-2)

@@ -1,0 +1,62 @@
+-- `rows::number_all` meets its contract: by what is known of the block. Assumes nothing.
+use mathlib.Core.Path.{refl, subst}
+use Rattle.lines.proofs.Mines.{other-ranks}
+use Rattle.lines.proofs.Knowing.{roomed, ranks-no-room, ranks-refusing, ranks-ending}
+use Rattle.rows.specs.Calls.{KnownIs}
+use borrow.Author.Needs.{needs}
+use Rattle.rows.proofs.number_all.Statement.{statement}
+use Rattle.rows.proofs.number_all.Tie as tie
+
+known-of-requires : tie.Need-known-of-requires
+known-of-requires c κs = search needs
+
+enum-told : tie.Need-enum-told
+enum-told c = search needs
+
+enum-told-2 : tie.Need-enum-told-2
+enum-told-2 c = search needs
+
+enum-known-r : tie.Need-enum-known-r
+enum-known-r c = search needs
+
+enum-known-c : tie.Need-enum-known-c
+enum-known-c c = search needs
+
+number-edges-requires : tie.Need-number-edges-requires
+number-edges-requires c κs =
+    let known = subst (KnownIs (c .before .before .before .before .before .before .before .before .before .args .block .now) _) (c .before .before .c .given .1) (c .before .before .before .before .known-of .ensures) in (known .0, roomed _ (c .before .before .before .before .before .before .before .before .before .args .numbers .now) refl (known .1 .roomy))
+
+returns : tie.Need-returns
+returns c =
+    other-ranks (subst (KnownIs (c .before .before .before .before .before .before .before .args .block .now) _) (c .enum-told .given .1) (c .before .before .known-of .ensures)) _ _
+
+returns-2 : tie.Need-returns-2
+returns-2 c =
+    ranks-no-room (c .before .before .before .before .before .before .before .args .block .now) _ _ _ refl (subst (KnownIs (c .before .before .before .before .before .before .before .args .block .now) _) (c .enum-told2 .given .1) (c .before .before .known-of .ensures))
+
+returns-3 : tie.Need-returns-3
+returns-3 c =
+    ranks-refusing (c .before .before .before .before .before .before .before .before .args .block .now) _ _ _ refl (subst (KnownIs (c .before .before .before .before .before .before .before .before .args .block .now) _) (c .before .r .given .1) (c .before .before .before .known-of .ensures))
+
+same-length : tie.Need-same-length
+same-length c = search needs
+
+returns-4 : tie.Need-returns-4
+returns-4 c =
+    ranks-ending (c .before .before .before .before .before .before .before .before .before .before .before .before .args .block .now) _ _ _ refl (c .before .before .number-edges .result) _ (subst (KnownIs (c .before .before .before .before .before .before .before .before .before .before .before .before .args .block .now) _) (c .before .before .before .before .before .c .given .1) (c .before .before .before .before .before .before .before .known-of .ensures) .1) (c .before .before .number-edges .ensures)
+
+pub number-all-spec : {M : Type 1} → statement M
+number-all-spec =
+    tie.close
+    (tie.spec
+    known-of-requires
+    enum-told
+    enum-told-2
+    enum-known-r
+    enum-known-c
+    number-edges-requires
+    returns
+    returns-2
+    returns-3
+    same-length
+    returns-4)

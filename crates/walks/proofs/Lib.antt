@@ -1,0 +1,4 @@
+pub mod Spots
+pub mod Pacing
+pub mod Stepping
+pub mod Checking

@@ -1,0 +1,144 @@
+-- `walks::walking::walk_one` meets its contract. The loop's invariant: the first i steps keep the rules, and what is left goes on from the
+-- point at x and h. Assumes nothing.
+use mathlib.Core.Path.{sym, _∙_}
+use Prim.Native.Nat.{_-_}
+use native.Mathlib.Omega.{arith}
+use lib.ListN.{length}
+use borrow.Author.Needs.{needs}
+use borrow.Author.Tests.{not-true, not-false}
+use Rattle.walks.proofs.Stepping.{Stepping, stepping-start, height-most, not-step, beyond, out, stepping-more, not-there, not-level, arrived}
+use Rattle.walks.proofs.walking.walk_one.Statement.{statement}
+use Rattle.walks.proofs.walking.walk_one.Tie as tie
+
+abbrev Inv-loop : tie.InvT-loop
+Inv-loop p edge a b x₀ h₀ i₀ x h i = Stepping p edge x h i
+
+abbrev μ-loop : tie.MeasureT-loop
+μ-loop p edge a b x₀ h₀ i₀ x h i = length edge - i
+
+loop-holds : tie.Need-loop-holds Inv-loop μ-loop
+loop-holds c =
+    stepping-start (c .before .before .before .pre)
+
+shared-slice-read-letter-of : tie.Need-shared-slice-read-letter-of Inv-loop μ-loop
+shared-slice-read-letter-of c =
+    search needs
+
+letter-of-requires : tie.Need-letter-of-requires Inv-loop μ-loop
+letter-of-requires c κs =
+    search needs
+
+returns : tie.Need-returns Inv-loop μ-loop
+returns c =
+    not-step (c .before .before .before .before .before .loop .inv) (c .before .before .before .before .loop-test .taken) (c .before .before .letter-of .ensures) (c .if1 .taken)
+
+array-read-wide : tie.Need-array-read-wide Inv-loop μ-loop
+array-read-wide c =
+    omega (arith, c .before .before .before .before .before .loop .inv .paced .paces .few)
+
+wide-requires : tie.Need-wide-requires Inv-loop μ-loop
+wide-requires c κs =
+    search needs
+
+add-x : tie.Need-add-x Inv-loop μ-loop
+add-x c =
+    omega (arith, c .wide .ensures, c .before .before .before .before .before .before .loop .inv .paced .paces .strides .a-most (c .before .before .before .letter-of .result) (c .before .if1 .left), c .before .before .before .before .before .before .loop .inv .paced .paces .strides .b-most (c .before .before .before .letter-of .result) (c .before .if1 .left), c .before .before .before .before .before .before .loop .inv .paced .paces .strides .upward (c .before .before .before .letter-of .result) (c .before .if1 .left), c .before .before .before .before .before .before .loop .inv .x-most, c .before .before .before .before .before .before .loop .inv .paced .paces .n-most)
+
+array-read-wide-2 : tie.Need-array-read-wide-2 Inv-loop μ-loop
+array-read-wide-2 c =
+    omega (arith, c .before .before .before .before .before .before .loop .inv .paced .paces .few)
+
+wide-requires-2 : tie.Need-wide-requires-2 Inv-loop μ-loop
+wide-requires-2 c κs =
+    search needs
+
+mul-h : tie.Need-mul-h Inv-loop μ-loop
+mul-h c =
+    omega (arith, c .before .wide .ensures, c .before .before .before .before .before .before .before .loop .inv .paced .paces .strides .a-most (c .before .before .before .before .letter-of .result) (c .before .before .if1 .left), c .before .before .before .before .before .before .before .loop .inv .paced .paces .strides .b-most (c .before .before .before .before .letter-of .result) (c .before .before .if1 .left), c .before .before .before .before .before .before .before .loop .inv .paced .paces .strides .upward (c .before .before .before .before .letter-of .result) (c .before .before .if1 .left))
+
+add-h : tie.Need-add-h Inv-loop μ-loop
+add-h c =
+    omega (arith, c .before .wide .ensures, c .wide2 .ensures, c .before .before .before .before .before .before .before .loop .inv .paced .paces .strides .a-most (c .before .before .before .before .letter-of .result) (c .before .before .if1 .left), c .before .before .before .before .before .before .before .loop .inv .paced .paces .strides .b-most (c .before .before .before .before .letter-of .result) (c .before .before .if1 .left), c .before .before .before .before .before .before .before .loop .inv .paced .paces .strides .upward (c .before .before .before .before .letter-of .result) (c .before .before .if1 .left))
+
+sub-h : tie.Need-sub-h Inv-loop μ-loop
+sub-h c =
+    omega (arith, c .before .wide .ensures, c .wide2 .ensures, c .before .before .before .before .before .before .before .loop .inv .paced .paces .strides .a-most (c .before .before .before .before .letter-of .result) (c .before .before .if1 .left), c .before .before .before .before .before .before .before .loop .inv .paced .paces .strides .b-most (c .before .before .before .before .letter-of .result) (c .before .before .if1 .left), c .before .before .before .before .before .before .before .loop .inv .paced .paces .strides .upward (c .before .before .before .before .letter-of .result) (c .before .before .if1 .left))
+
+add-h-2 : tie.Need-add-h-2 Inv-loop μ-loop
+add-h-2 c =
+    omega (arith, c .before .wide .ensures, c .wide2 .ensures, c .before .before .before .before .before .before .before .loop .inv .paced .paces .strides .a-most (c .before .before .before .before .letter-of .result) (c .before .before .if1 .left), c .before .before .before .before .before .before .before .loop .inv .paced .paces .strides .b-most (c .before .before .before .before .letter-of .result) (c .before .before .if1 .left), c .before .before .before .before .before .before .before .loop .inv .paced .paces .strides .upward (c .before .before .before .before .letter-of .result) (c .before .before .if1 .left), height-most (c .before .before .before .before .before .before .before .loop .inv))
+
+returns-2 : tie.Need-returns-2 Inv-loop μ-loop
+returns-2 c =
+    beyond (c .before .before .before .before .before .before .before .before .before .loop .inv) (c .before .before .before .before .before .before .before .before .loop-test .taken) (c .before .before .before .before .before .before .letter-of .ensures) (c .before .before .before .before .if1 .left) (omega (arith, c .before .before .before .wide .ensures)) (c .if2 .taken)
+
+is-within-requires : tie.Need-is-within-requires Inv-loop μ-loop
+is-within-requires c κs =
+    (omega (arith, c .if2 .left, c .before .before .before .before .before .before .before .before .before .loop .inv .paced .paces .n-most), c .before .before .before .before .before .before .before .before .before .loop .inv .paced .paces .m-most)
+
+returns-3 : tie.Need-returns-3 Inv-loop μ-loop
+returns-3 c =
+    out (c .before .before .before .before .before .before .before .before .before .before .before .loop .inv) (c .before .before .before .before .before .before .before .before .before .before .loop-test .taken) (c .before .before .before .before .before .before .before .before .letter-of .ensures) (c .before .before .before .before .before .before .if1 .left) (omega (arith, c .before .before .before .before .before .wide .ensures)) (omega (arith, c .before .before .before .before .before .wide .ensures, c .before .before .before .before .wide2 .ensures)) (c .before .before .if2 .left) (sym (c .before .is-within .ensures) ∙ not-true _ (c .if3 .taken))
+
+add-i : tie.Need-add-i Inv-loop μ-loop
+add-i c =
+    search needs
+
+loop-less : tie.Need-loop-less Inv-loop μ-loop
+loop-less c =
+    search needs
+
+loop-again : tie.Need-loop-again Inv-loop μ-loop
+loop-again c =
+    stepping-more (c .before .before .before .before .before .before .before .before .before .before .before .loop .inv) (c .before .before .before .before .before .before .before .before .before .before .loop-test .taken) (c .before .before .before .before .before .before .before .before .letter-of .ensures) (c .before .before .before .before .before .before .if1 .left) (omega (arith, c .before .before .before .before .before .wide .ensures)) (omega (arith, c .before .before .before .before .before .wide .ensures, c .before .before .before .before .wide2 .ensures)) (c .before .before .if2 .left) (sym (c .before .is-within .ensures) ∙ not-false _ (c .if3 .left))
+
+returns-4 : tie.Need-returns-4 Inv-loop μ-loop
+returns-4 c =
+    not-there (c .before .before .before .loop .inv) (c .before .before .loop-test .left) (c .if4 .taken)
+
+mul-if5 : tie.Need-mul-if5 Inv-loop μ-loop
+mul-if5 c =
+    omega (arith, c .before .before .before .before .loop .inv .paced .paces .n-most)
+
+add-if5 : tie.Need-add-if5 Inv-loop μ-loop
+add-if5 c =
+    omega (arith, c .before .before .before .before .before .loop .inv .paced .paces .n-most, c .before .before .before .before .before .loop .inv .paced .paces .m-most)
+
+returns-5 : tie.Need-returns-5 Inv-loop μ-loop
+returns-5 c =
+    not-level (c .before .before .before .before .before .before .loop .inv) (c .before .before .before .before .before .loop-test .left) (c .if5 .taken)
+
+returns-6 : tie.Need-returns-6 Inv-loop μ-loop
+returns-6 c =
+    arrived (c .before .before .before .before .before .before .loop .inv) (c .before .before .before .before .before .loop-test .left) (c .before .before .before .if4 .left) (c .if5 .left)
+
+pub walk-one-spec : {M : Type 1} → statement M
+walk-one-spec =
+    tie.close
+    (tie.spec
+    Inv-loop
+    μ-loop
+    loop-holds
+    shared-slice-read-letter-of
+    letter-of-requires
+    returns
+    array-read-wide
+    wide-requires
+    add-x
+    array-read-wide-2
+    wide-requires-2
+    mul-h
+    add-h
+    sub-h
+    add-h-2
+    returns-2
+    is-within-requires
+    returns-3
+    add-i
+    loop-less
+    loop-again
+    returns-4
+    mul-if5
+    add-if5
+    returns-5
+    returns-6)
