@@ -95,20 +95,6 @@ go-north : (x y X Y : ℕ) → Go x y (78 ∷ []) X Y → (y + 1 ≤ x) × (x �
 unfolding Go
 go-north x y X Y w = (w .0, w .1 .0, w .1 .1)
 
-go-east : (x y X Y : ℕ) → Go x y (69 ∷ []) X Y → (x + 1 ≡ X) × (y ≡ Y)
-unfolding Go
-go-east x y X Y w = w .1
-
-go-no : (c x y X Y : ℕ) → c ≢ 78 → c ≢ 69 → Go x y (c ∷ []) X Y → ⊥
-unfolding Go
-go-no c x y X Y n e w = step (letterOf c) (known c) w
-  where
-    step : (k : Letter) → Known c k → Next false 0 (λ x′ y′. Go x′ y′ [] X Y) k x y → ⊥
-    step north g z = n g
-    step east g z = e g
-    step diag g z = z .0
-    step other g z = z
-
 -- ---- the code tests `!ok`
 pub got-good : (b : Bool) (room : ℕ) (s : List ℕ) (at sz r : ℕ) → not b ≡ false → Got b room s at sz r → Ok room s at sz r
 got-good b room s at sz r e g = subst (λ (b : Bool). Got b room s at sz r) (not-false b e) g
@@ -147,6 +133,22 @@ front s k c p h e =
     let g : k ≡ suc (k - 1) = omega arith in
     let l : k - 1 < length s = omega arith in
     ap (λ (z : ℕ). take z s) g ∙ take-suc s (k - 1) 0 l ∙ ap (λ (z : ℕ). take (k - 1) s ++ (z ∷ [])) e
+
+-- a walk by a front that does not end with `N` ends with `E`
+module _ (s : List ℕ) (k X Y : ℕ) (pos : 0 < k) (h : k ≤ length s) (n : getD s (k - 1) 0 ≢ 78) (w : Go 0 0 (take k s) X Y) where
+  before-east : Mid 0 0 (take (k - 1) s) (getD s (k - 1) 0 ∷ []) X Y
+  before-east = go-split (take (k - 1) s) (getD s (k - 1) 0 ∷ []) 0 0 X Y (subst (λ (l : List ℕ). Go 0 0 l X Y) (front s k (getD s (k - 1) 0) pos h refl) w)
+
+  at-east : (getD s (k - 1) 0 ≡ 69) × (before-east .a + 1 ≡ X) × (before-east .b ≡ Y)
+  unfolding Go
+  at-east = step (letterOf (getD s (k - 1) 0)) (known (getD s (k - 1) 0)) (before-east .second)
+    where
+      step : (l : Letter) → Known (getD s (k - 1) 0) l → Next false 0 (λ x′ y′. Go x′ y′ [] X Y) l (before-east .a) (before-east .b)
+          → (getD s (k - 1) 0 ≡ 69) × (before-east .a + 1 ≡ X) × (before-east .b ≡ Y)
+      step north g z = absurd (n g)
+      step east g z = (g, z .1 .0, z .1 .1)
+      step diag g z = absurd (z .0)
+      step other g z = absurd z
 
 module _ (room : ℕ) (s : List ℕ) (pos : 0 < length s) (e : getD s (length s - 1) 0 ≡ 78) where
   last : s ≡ take (length s - 1) s ++ (78 ∷ [])
@@ -207,17 +209,15 @@ module _ (room : ℕ) (s : List ℕ) (pos : 0 < length s) (e : getD s (length s 
 
       pub no-east : getD s (k - 1) 0 ≢ 69 → NoFront room s
       unfolding NoFront
-      no-east g X Y l z =
-          let m = go-split (take (k - 1) s) (getD s (k - 1) 0 ∷ []) 0 0 _ _ (subst (λ (l : List ℕ). Go 0 0 l (before-inside X Y z .a) (before-inside X Y z .b)) (front s k (getD s (k - 1) 0) pk short refl) (before-inside X Y z .first)) in
-          go-no (getD s (k - 1) 0) (m .a) (m .b) _ _ not-north g (m .second)
+      no-east g X Y l z = g (at-east s k _ _ pk short not-north (before-inside X Y z .first) .0)
 
       module _ (g : getD s (k - 1) 0 ≡ 69) where
         pub no-first : NoFront (room - 1 - j) (take (k - 1) s) → NoFront room s
         unfolding NoFront
         no-first f X Y l z =
-            let m = go-split (take (k - 1) s) (69 ∷ []) 0 0 _ _ (subst (λ (l : List ℕ). Go 0 0 l (before-inside X Y z .a) (before-inside X Y z .b)) (front s k 69 pk short g) (before-inside X Y z .first)) in
-            let t = go-east (m .a) (m .b) _ _ (m .second) in
-            f (m .a) (m .b) (omega (arith, t .1, at-inside X Y z .1, at-last X Y z .2, u .small)) (m .first)
+            let m = before-east s k _ _ pk short not-north (before-inside X Y z .first) in
+            let t = at-east s k _ _ pk short not-north (before-inside X Y z .first) in
+            f (m .a) (m .b) (omega (arith, t .2, at-inside X Y z .1, at-last X Y z .2, u .small)) (m .first)
 
         module _ {at i a : ℕ} (v : Ok (room - 1 - j) (take (k - 1) s) at i a) where
           first-within : at ≤ k - 1
@@ -268,7 +268,7 @@ module _ (n : ℕ) (s : List ℕ) where
 
     pub none-front : at ≢ 0 → Walk false 0 0 0 s n → ⊥
     unfolding NoNorth Go
-    none-front b z = omega (arith, go-under (take (at - 1) s) 0 0 (m .a) (m .b) (le-refl 0) (m .first), t .0, t .1, ends .0, ends .1)
+    none-front b z = omega (arith, go-under (take (at - 1) s) 0 0 (m .a) (m .b) (le-refl 0) (m .first), t .1, t .2, ends .0, ends .1)
       where
         pos : 0 < at
         pos = omega arith
@@ -276,23 +276,11 @@ module _ (n : ℕ) (s : List ℕ) where
         ends : (whole z .a + size false 0 (u .tree) ≡ n) × (whole z .b + size false 0 (u .tree) ≡ n)
         ends = go-tree (u .tree) (whole z .a) (whole z .b) n n (whole z .second)
 
-        c : ℕ
-        c = getD s (at - 1) 0
+        m : Mid 0 0 (take (at - 1) s) (getD s (at - 1) 0 ∷ []) (whole z .a) (whole z .b)
+        m = before-east s at _ _ pos (u .within) (u .stops pos) (whole z .first)
 
-        m : Mid 0 0 (take (at - 1) s) (c ∷ []) (whole z .a) (whole z .b)
-        m = go-split (take (at - 1) s) (c ∷ []) 0 0 _ _ (subst (λ (l : List ℕ). Go 0 0 l (whole z .a) (whole z .b)) (front s at c pos (u .within) refl) (whole z .first))
-
-        t : (m .a + 1 ≡ whole z .a) × (m .b ≡ whole z .b)
-        t = east-only c (u .stops pos) (m .second)
-          where
-            east-only : (c : ℕ) → c ≢ 78 → Go (m .a) (m .b) (c ∷ []) (whole z .a) (whole z .b) → (m .a + 1 ≡ whole z .a) × (m .b ≡ whole z .b)
-            east-only c h w = step (letterOf c) (known c) w
-              where
-                step : (k : Letter) → Known c k → Next false 0 (λ x′ y′. Go x′ y′ [] (whole z .a) (whole z .b)) k (m .a) (m .b) → (m .a + 1 ≡ whole z .a) × (m .b ≡ whole z .b)
-                step north g z = absurd (h g)
-                step east g z = z .1
-                step diag g z = absurd (z .0)
-                step other g z = absurd z
+        t : (getD s (at - 1) 0 ≡ 69) × (m .a + 1 ≡ whole z .a) × (m .b ≡ whole z .b)
+        t = at-east s at _ _ pos (u .within) (u .stops pos) (whole z .first)
 
     shown-whole : at ≡ 0 → print false 0 (u .tree) ≡ s
     shown-whole e = sym (u .shown ∙ ap (λ (i : ℕ). take i s ++ print false 0 (u .tree)) e)

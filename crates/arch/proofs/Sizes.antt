@@ -1,14 +1,14 @@
 -- What the functions ask of a few numbers, each by itself: a search inside a function's proof reads all that the function knows, and
 -- is slow where that is much. Assumes nothing.
 --
---   not-none, none-left            a number that is not 0, and one that is
---   one-less, one-le, back-on      one less than a number
---   le-more, more-le               a sum's first part
---   half-le, half-less, half-back  a half, and what is before it
+--   none-left                      a number up to 0 is 0
+--   one-less, back-on              one less than a number
+--   more-le                        a sum's first part
+--   half-less, half-back           a half, and what is before it
 --   falls-other, falls-less        the measure falls: at a call of the other function by the same size, and at one by less
---   falls-ending, falls-spell, falls-first, falls-inside    the same where three functions call each other
+--   falls-spell, falls-first, falls-inside    the same where three functions call each other
 --   left-one                       what is left of the bytes falls
---   room-last, some-end, back-last, last-under    room before the last step
+--   room-last, some-end, last-under    room before the last step
 --   twice-most, twice-le, in-as-many    room for the bytes of an edge, and for one among as many
 --   back-less, back-le             the place before an inside
 --   number-some, number-last       the count is more than a number below it
@@ -20,34 +20,21 @@
 --   in-table, byte-fits            a place in the table, and in bytes
 --   next-fits, sum-fits, wide-fits, parts-fit, sum-parts, edge-fits    the sums that the code makes fit
 use mathlib.Core.Path.{_≡_}
-use mathlib.Core.Logic.{_≢_}
 use Prim.Native.Nat.{ℕ, _+_, _-_, _*_, _/_, _^_, _≤_, _<_}
 use native.Mathlib.Omega.{arith}
 
 -- ---- one number, or a sum
-pub not-none : (n : ℕ) → n ≢ 0 → 0 < n
-not-none n h = omega arith
-
 pub none-left : (n : ℕ) → n ≤ 0 → n ≡ 0
 none-left n h = omega arith
 
 pub one-less : (n : ℕ) → 0 < n → n - 1 < n
 one-less n h = omega arith
 
-pub one-le : (n : ℕ) → n - 1 ≤ n
-one-le n = omega arith
-
 pub back-on : (k : ℕ) → 0 < k → k - 1 + 1 ≡ k
 back-on k h = omega arith
 
-pub le-more : (a b : ℕ) → a ≤ a + b
-le-more a b = omega arith
-
 pub more-le : (a b n : ℕ) → a + b ≤ n → a ≤ n
 more-le a b n h = omega arith
-
-pub half-le : (n : ℕ) → n / 2 ≤ n
-half-le n = omega arith
 
 pub half-less : (n : ℕ) → 0 < n → n / 2 < n
 half-less n h = omega arith
@@ -56,14 +43,11 @@ pub half-back : (i n : ℕ) → 0 < n → i ≤ n / 2 → i - 1 < n
 half-back i n h l = omega arith
 
 -- ---- what falls
-pub falls-other : (n t : ℕ) → 2 * n + 1 ≡ t → 2 * n < t
-falls-other n t e = omega arith
+pub falls-other : (m t : ℕ) → m + 1 ≡ t → m < t
+falls-other m t e = omega arith
 
 pub falls-less : (m n t : ℕ) → 2 * n ≡ t → m < n → 2 * m + 1 < t
 falls-less m n t e l = omega arith
-
-pub falls-ending : (n t : ℕ) → 3 * n + 1 ≡ t → 3 * n < t
-falls-ending n t e = omega arith
 
 pub falls-spell : (n t : ℕ) → 3 * n + 2 ≡ t → 3 * n + 1 < t
 falls-spell n t e = omega arith
@@ -83,12 +67,8 @@ left-one next l h = omega arith
 pub room-last : (m n last : ℕ) → m < n → n + n ≤ last + 1 → m + m ≤ last
 room-last m n last l h = omega arith
 
-module _ (n end : ℕ) (l : 0 < n) (h : n + n ≤ end) where
-  pub some-end : 1 ≤ end
-  some-end = omega arith
-
-  pub back-last : end - 1 + 1 ≡ end
-  back-last = omega arith
+pub some-end : (n end : ℕ) → 0 < n → n + n ≤ end → 1 ≤ end
+some-end n end l h = omega arith
 
 pub last-under : (n end most : ℕ) → 0 < n → n + n ≤ end → end ≤ most → end - 1 < most
 last-under n end most l h g = omega arith

@@ -54,7 +54,7 @@ module _ {s : Shape} (a : s .state ≡ 1 → ⊥) where
     narrow-of k = omega (arith, po .ex-is, form-of k .1)
 
     pub numbers-as : (es : List (List ℕ)) (before after : List ℕ) (x : Ranked) → NumbersFor false p (s .sa) (s .sc) es before after x → NumbersAs s es before after x
-    numbers-as es before after x h J r g w = let k = state-working J s w a in plan-numbers J s r (k .fits) po (k .letters) g es before after x h
+    numbers-as es before after x h J r g w = let k = state-working J s w a in plan-numbers J s r (k .fits) po (k .letters) es before after x h
 
     pub builds-as : (ns steps ends : List ℕ) (x : Built) (t u : List ℕ) → BuildsFor false p (s .sa) (s .sc) ns steps ends t u x → BuildsAs s ns steps ends t u x
-    builds-as ns steps ends x t u h J r g w = let k = state-working J s w a in plan-builds J s r (k .fits) po (k .letters) g ns steps ends x t u h
+    builds-as ns steps ends x t u h J r g w = let k = state-working J s w a in plan-builds J s r (k .fits) po (k .letters) ns steps ends x t u h

@@ -17,20 +17,20 @@ use Rattle.rules.specs.Refusals.{check}
 use Rattle.rules.specs.Refusals.Refusal.{form, size, twin}
 use Rattle.rules.specs.Refusals.Answer.{accepted}
 use Rattle.rules.specs.Refusals.{refusalNumber}
-use Rattle.rules.specs.Blocks.{paired, familyOf, nOf, mOf, kOf, zeros, formed, sized, sizedDirected, small, used, between, twins, jobIn, jobAnswer}
+use Rattle.rules.specs.Blocks.{blockLength, paired, familyOf, nOf, mOf, kOf, zeros, formed, sized, sizedDirected, small, used, between, twins, jobIn, jobAnswer}
 use Rattle.rules.proofs.Families.{sized-paired}
 use Rattle.job.specs.Made.{Pairs, makes, madeOf, refusedBy, heldBy}
 use Rattle.job.proofs.Blocks.{formed-is}
 
-pub twenty-of : (b : List ℕ) → formed b ≡ true → length b ≡ 20
-twenty-of b e = eqb→eq (length b) 20 (and-left (eqb (length b) 20) _ (holds (sym (formed-is b) ∙ e)))
+pub twenty-of : (b : List ℕ) → formed b ≡ true → length b ≡ blockLength
+twenty-of b e = eqb→eq (length b) blockLength (and-left (eqb (length b) blockLength) _ (holds (sym (formed-is b) ∙ e)))
 
 -- where there are no pairs, k is an unused byte
 no-pairs : (b : List ℕ) → formed b ≡ true → paired (familyOf b) ≡ false → kOf b ≡ 0
 unfolding zeros
 no-pairs b e l =
     let z : ℕ → Bool = λ n. zeros (pick (paired (familyOf b)) (drop (4 + 2 * kOf b) b) (drop 3 b)) in
-    let a = and-right (eqb (length b) 20) _ (holds (sym (formed-is b) ∙ e)) in
+    let a = and-right (eqb (length b) blockLength) _ (holds (sym (formed-is b) ∙ e)) in
     let c = and-right (leb (familyOf b) 7) (z 0) (and-right (leb 1 (familyOf b)) _ a) in
     let d : T (zeros (drop 3 b)) = rw l at c in
     let f : T (eqb (getD b 3 0) 0 && zeros (drop 4 b)) = rw (drop-cons b 3 0 (omega (arith, twenty-of b e))) at d in

@@ -17,7 +17,7 @@ use Rattle.rules.specs.Jobs as rules
 use Rattle.rules.specs.Jobs.{Pair}
 use Rattle.rules.specs.Refusals.{Answer, refusalNumber}
 use Rattle.rules.specs.Refusals.Answer.{accepted, refused}
-use Rattle.rules.specs.Blocks.{signed, jobAnswer}
+use Rattle.rules.specs.Blocks.{blockLength, signed, jobAnswer}
 use Rattle.job.specs.declared.Job.{Job}
 use Rattle.job.specs.declared.Made.{Made}
 
@@ -28,11 +28,11 @@ abbrev pub pairOf : List ℕ → ℕ → Pair
 pairOf b i = record { a = getD b (4 + 2 * i) 0; b = signed (getD b (5 + 2 * i) 0) }
 
 abbrev pub Twenty : List ℕ → Type 0
-Twenty b = length b ≡ 20
+Twenty b = length b ≡ blockLength
 
 -- b has the length of a block, and k of its pairs are used
 pub record Pairs (b : List ℕ) (k : ℕ) : Type 0 where
-  pub twenty : length b ≡ 20
+  pub twenty : length b ≡ blockLength
   pub many : getD b 3 0 ≡ k
   pub few : k ≤ 8
 

@@ -60,7 +60,7 @@ module _ (lettered : Bool) (i : ℕ) where
   unfolding glyphOf
   glyph-digit e = rw e
 
--- for the three lettereds, and for the eight digits
+-- for the three letters, and for the eight digits
 pub place-lettered : (i : ℕ) → i < 3 → placeOf true (glyphOf true i) ≡ i
 unfolding placeOf glyphOf
 place-lettered zero l = refl

@@ -1,4 +1,4 @@
--- The letters of an edge as bytes. Families 1 and 3 write lettereds, N E D; families 6 and 7 write the digits 1 to 8.
+-- The letters of an edge as bytes. Families 1 to 5 write N E D; families 6 and 7 write the digits 1 to 8.
 --
 --   placeOf lettered b    which step the byte b stands for; 8 where it is no letter
 --   glyphOf lettered i    the byte of step i

@@ -1,4 +1,4 @@
-// Which step a byte of an edge stands for: lettereds N E D for families 1 and 3, the digits 1 to 8 for families 6 and 7.
+// Which step a byte of an edge stands for: the letters N E D for families 1 to 5, the digits 1 to 8 for families 6 and 7.
 ghost use mathlib.Core.Path.{_≡_};
 ghost use Rattle.letters.specs.Letters.{placeOf};
 use job::Step;

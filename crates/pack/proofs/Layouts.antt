@@ -15,7 +15,7 @@ use lib.Dec.{leb, eqb}
 use lib.ListN.{length, take}
 use borrow.Author.Tests.{le-leb}
 use Rattle.howmany.proofs.Choices.{is-true, is-false, holds}
-use Rattle.rules.specs.Packs.{mark, word, sameBytes, countIn, offset, rises, laid}
+use Rattle.rules.specs.Packs.{longest, offsetsAt, shortest, mark, word, sameBytes, countIn, offset, rises, laid}
 use Rattle.rules.proofs.PackLaws.{same-refl, same-eq, rises-at, LaidOut, laid-of as laid-out}
 use Rattle.pack.specs.Layout.{Laid}
 
@@ -28,7 +28,7 @@ same-is x y false f g = sym (is-false (sameBytes x y) (λ t. holds (g (same-eq x
 -- ---- the offsets
 
 module _ (p : List ℕ) where
-  pub offset-is : (i : ℕ) → word p (26 + 2 * i) ≡ offset p i
+  pub offset-is : (i : ℕ) → word p (offsetsAt + 2 * i) ≡ offset p i
   unfolding offset
   offset-is i = refl
 
@@ -44,8 +44,8 @@ module _ (p : List ℕ) where
   -- the tests of `laid`, the count c in hand
   abbrev pub tests : ℕ → Bool
   tests c =
-      leb 28 (length p) && (leb (length p) 32768 && (sameBytes (take 4 p) mark && (leb c 200
-      && (leb (28 + 2 * c) (length p) && (eqb (offset p 0) (28 + 2 * c) && (rises p c && eqb (offset p c) (length p)))))))
+      leb shortest (length p) && (leb (length p) longest && (sameBytes (take 4 p) mark && (leb c 200
+      && (leb (shortest + 2 * c) (length p) && (eqb (offset p 0) (shortest + 2 * c) && (rises p c && eqb (offset p c) (length p)))))))
 
   pub laid-at : (c : ℕ) → c ≡ countIn p → laid p ≡ tests c
   unfolding laid

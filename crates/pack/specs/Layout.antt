@@ -14,7 +14,7 @@ use Rattle.howmany.specs.Choose.{pick}
 use Rattle.rules.specs.Jobs.{Job}
 use Rattle.rules.specs.Blocks.{jobAnswer}
 use Rattle.rules.specs.Refusals.Answer.{accepted}
-use Rattle.rules.specs.Packs.{countIn, edgesFrom, offset}
+use Rattle.rules.specs.Packs.{shortest, countIn, edgesFrom, offset}
 use Rattle.rules.specs.Questions.{allValid}
 
 abbrev pub edgesIn : List ℕ → List (List ℕ)
@@ -22,15 +22,15 @@ edgesIn p = edgesFrom p 0 (countIn p)
 
 -- "c+1 offsets of two bytes at 26"
 abbrev pub Offset : List ℕ → ℕ → Type 0
-Offset p i = 28 + 2 * i ≤ length p
+Offset p i = shortest + 2 * i ≤ length p
 
 pub record EdgeAt (p : List ℕ) (i : ℕ) : Type 0 where
-  pub table : 30 + 2 * i ≤ length p
+  pub table : (shortest + 2) + 2 * i ≤ length p
   pub rise : offset p i ≤ offset p (i + 1)
   pub within : offset p (i + 1) ≤ length p
 
 pub record Laid (p : List ℕ) : Type 0 where
-  pub least : 28 ≤ length p
+  pub least : shortest ≤ length p
   pub few : countIn p ≤ 200
   pub edge : (i : ℕ) → i < countIn p → EdgeAt p i
 

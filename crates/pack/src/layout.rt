@@ -2,7 +2,7 @@
 ghost use mathlib.Core.Path.{_≡_};
 ghost use Prim.Native.Nat.{ℕ, _+_, _≤_, _<_};
 ghost use lib.ListN.{length, take};
-ghost use Rattle.rules.specs.Packs.{countIn, laid, mark, offset, rises, sameBytes, word};
+ghost use Rattle.rules.specs.Packs.{countIn, shortest, laid, mark, offset, rises, sameBytes, word};
 ghost use Rattle.pack.specs.Layout.{EdgeAt, EndsOf, Laid, Offset};
 ghost use Rattle.job.specs.Parts.{PartOf};
 use super::Pack;
@@ -23,7 +23,7 @@ fn word_at(pack: &[u8], k: usize) -> usize
 
 // The edge count c.
 pub(crate) fn edge_count(pack: &[u8]) -> usize
-    requires { ⌜ 28 ≤ length (now pack) ⌝ }
+    requires { ⌜ shortest ≤ length (now pack) ⌝ }
     ensures { λ r. ⌜ (r ≡ countIn (now (pack .entry))) × (r < 65536) ⌝ }
 {
     word_at(pack, Pack::COUNT)

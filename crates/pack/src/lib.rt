@@ -17,14 +17,14 @@ pub struct Pack {}
 impl Pack {
     // The first four bytes of every pack.
     pub const MARK: [u8; 4] = *b"EDG1";
-    // Where the job block stands, the edge count behind it, and the offsets.
+    // Where the job block stands, the edge count right behind it, and the offsets.
     pub const BLOCK: usize = 4;
 
-    pub const COUNT: usize = 24;
+    pub const COUNT: usize = Pack::BLOCK + job::Job::BLOCK;
 
-    pub const OFFSETS: usize = 26;
+    pub const OFFSETS: usize = Pack::COUNT + 2;
     // "Length 28 to 32,768."
-    pub const SHORTEST: usize = 28;
+    pub const SHORTEST: usize = Pack::OFFSETS + 2;
 
     pub const LONGEST: usize = 32768;
     // The most edges of a pack.

@@ -16,9 +16,10 @@ use lib.ListN.{length, getD, take, drop, set, length-append, length-drop, take-a
 use lib.Seq.{take-at, take-all, take-suc, length-take-le, drop-drop, drop-append-add}
 use borrow.Rule.Slice.PartMut.{putMid}
 use borrow.Author.Tests.{le-leb}
+use Rattle.rules.specs.Blocks.{blockLength}
 use Rattle.rules.specs.Refusals.Answer.{accepted}
 use Rattle.rules.specs.Answers.{written}
-use Rattle.rules.specs.Packs.{mark, two}
+use Rattle.rules.specs.Packs.{blockAt, countAt, offsetsAt, shortest, mark, two}
 use Rattle.job.specs.Replies.{BuiltAs}
 use Rattle.job.specs.declared.Built.{Built}
 use Rattle.job.specs.declared.Built.the-variants.{Length, Refused}
@@ -84,64 +85,64 @@ unfolding offsetsOf
 offsets-length first [] = refl
 offsets-length first (x ∷ ends) = omega (arith, offsets-length first ends)
 
-pub offsets-none : (L ends : List ℕ) (first : ℕ) → L ≡ pasted L 28 (offsetsOf first (take 0 ends))
+pub offsets-none : (L ends : List ℕ) (first : ℕ) → L ≡ pasted L shortest (offsetsOf first (take 0 ends))
 unfolding offsetsOf
-offsets-none L ends first = sym (take-append-drop 28 L)
+offsets-none L ends first = sym (take-append-drop shortest L)
 
-pub offsets-all : (L ends : List ℕ) (first i : ℕ) → length ends ≤ i → pasted L 28 (offsetsOf first (take i ends)) ≡ pasted L 28 (offsetsOf first ends)
-offsets-all L ends first i l = ap (λ (z : List ℕ). pasted L 28 (offsetsOf first z)) (take-all i ends l)
+pub offsets-all : (L ends : List ℕ) (first i : ℕ) → length ends ≤ i → pasted L shortest (offsetsOf first (take i ends)) ≡ pasted L shortest (offsetsOf first ends)
+offsets-all L ends first i l = ap (λ (z : List ℕ). pasted L shortest (offsetsOf first z)) (take-all i ends l)
 
-pub offsets-next : (L ends : List ℕ) (first i : ℕ) (out next : List ℕ) → i < length ends → 28 ≤ length L → out ≡ pasted L 28 (offsetsOf first (take i ends))
-    → next ≡ pasted out (28 + 2 * i) (two (first + getD ends i 0)) → next ≡ pasted L 28 (offsetsOf first (take (i + 1) ends))
+pub offsets-next : (L ends : List ℕ) (first i : ℕ) (out next : List ℕ) → i < length ends → shortest ≤ length L → out ≡ pasted L shortest (offsetsOf first (take i ends))
+    → next ≡ pasted out (shortest + 2 * i) (two (first + getD ends i 0)) → next ≡ pasted L shortest (offsetsOf first (take (i + 1) ends))
 offsets-next L ends first i out next l h e q =
-    q ∙ ap (λ (z : List ℕ). pasted z (28 + 2 * i) (two (first + getD ends i 0))) e
-    ∙ pasted-more L (offsetsOf first (take i ends)) (two (first + getD ends i 0)) 28 (28 + 2 * i)
+    q ∙ ap (λ (z : List ℕ). pasted z (shortest + 2 * i) (two (first + getD ends i 0))) e
+    ∙ pasted-more L (offsetsOf first (take i ends)) (two (first + getD ends i 0)) shortest (shortest + 2 * i)
     (omega (arith, offsets-length first (take i ends), length-take-le i ends (omega arith))) h
-    ∙ ap (pasted L 28)
+    ∙ ap (pasted L shortest)
     (sym (ap (offsetsOf first) (ap (λ (k : ℕ). take k ends) (add-one i) ∙ take-suc ends i 0 l) ∙ offsets-snoc first (take i ends) (getD ends i 0)))
 
-pub front-length : (block : List ℕ) (c : ℕ) → length block ≡ 20 → length (frontOf block c) ≡ 28
-front-length block c h = omega (arith, length-append block (two c ++ two (28 + 2 * c)))
+pub front-length : (block : List ℕ) (c : ℕ) → length block ≡ blockLength → length (frontOf block c) ≡ shortest
+front-length block c h = omega (arith, length-append block (two c ++ two (shortest + 2 * c)))
 
-pub pack-length : (block ends steps : List ℕ) → length block ≡ 20 → length (packFrom block ends steps) ≡ 28 + 2 * length ends + length steps
+pub pack-length : (block ends steps : List ℕ) → length block ≡ blockLength → length (packFrom block ends steps) ≡ shortest + 2 * length ends + length steps
 unfolding packFrom
 pack-length block ends steps h =
     omega (
       arith,
-      length-append (frontOf block (length ends)) (offsetsOf (28 + 2 * length ends) ends ++ steps),
-      length-append (offsetsOf (28 + 2 * length ends) ends) steps,
+      length-append (frontOf block (length ends)) (offsetsOf (shortest + 2 * length ends) ends ++ steps),
+      length-append (offsetsOf (shortest + 2 * length ends) ends) steps,
       front-length block (length ends) h,
-      offsets-length (28 + 2 * length ends) ends,
+      offsets-length (shortest + 2 * length ends) ends,
     )
 
 -- the mark, the block, the count and the first offset, put one after the other
-front-put : (L block : List ℕ) (c : ℕ) → length block ≡ 20
-    → pasted (pasted (pasted (pasted L 0 mark) 4 block) 24 (two c)) 26 (two (28 + 2 * c)) ≡ pasted L 0 (frontOf block c)
+front-put : (L block : List ℕ) (c : ℕ) → length block ≡ blockLength
+    → pasted (pasted (pasted (pasted L 0 mark) blockAt block) countAt (two c)) offsetsAt (two (shortest + 2 * c)) ≡ pasted L 0 (frontOf block c)
 front-put L block c h =
     let z : 0 ≤ length L = omega arith in
-    ap (λ (l : List ℕ). pasted (pasted l 24 (two c)) 26 (two (28 + 2 * c))) (pasted-more L mark block 0 4 refl z)
-    ∙ ap (λ (l : List ℕ). pasted l 26 (two (28 + 2 * c))) (pasted-more L (mark ++ block) (two c) 0 24 (omega (arith, length-append mark block)) z)
-    ∙ pasted-more L ((mark ++ block) ++ two c) (two (28 + 2 * c)) 0 26 (omega (arith, length-append (mark ++ block) (two c), length-append mark block)) z
-    ∙ ap (pasted L 0) (append-assoc (mark ++ block) (two c) (two (28 + 2 * c)) ∙ append-assoc mark block (two c ++ two (28 + 2 * c)))
+    ap (λ (l : List ℕ). pasted (pasted l countAt (two c)) offsetsAt (two (shortest + 2 * c))) (pasted-more L mark block 0 4 refl z)
+    ∙ ap (λ (l : List ℕ). pasted l offsetsAt (two (shortest + 2 * c))) (pasted-more L (mark ++ block) (two c) 0 countAt (omega (arith, length-append mark block)) z)
+    ∙ pasted-more L ((mark ++ block) ++ two c) (two (shortest + 2 * c)) 0 offsetsAt (omega (arith, length-append (mark ++ block) (two c), length-append mark block)) z
+    ∙ ap (pasted L 0) (append-assoc (mark ++ block) (two c) (two (shortest + 2 * c)) ∙ append-assoc mark block (two c ++ two (shortest + 2 * c)))
 
-pub front-all : (L block x y z w : List ℕ) (c : ℕ) → length block ≡ 20 → x ≡ pasted L 0 mark → y ≡ pasted x 4 block → z ≡ pasted y 24 (two c)
-    → w ≡ pasted z 26 (two (28 + 2 * c)) → w ≡ pasted L 0 (frontOf block c)
+pub front-all : (L block x y z w : List ℕ) (c : ℕ) → length block ≡ blockLength → x ≡ pasted L 0 mark → y ≡ pasted x blockAt block → z ≡ pasted y countAt (two c)
+    → w ≡ pasted z offsetsAt (two (shortest + 2 * c)) → w ≡ pasted L 0 (frontOf block c)
 front-all L block x y z w c h ex ey ez ew = rw (ew, ez, ey, ex) (front-put L block c h)
 
-pub pack-short : (block ends steps out : List ℕ) → length block ≡ 20 → length out < 28 + 2 * length ends + length steps
+pub pack-short : (block ends steps out : List ℕ) → length block ≡ blockLength → length out < shortest + 2 * length ends + length steps
     → BuiltAs (written (accepted (packFrom block ends steps)) out) (Refused 7) out
 pack-short block ends steps out h l = put-short (packFrom block ends steps) out (omega (arith, pack-length block ends steps h))
 
-pub pack-put : (block ends steps out a b after : List ℕ) (first len : ℕ) → length block ≡ 20 → first ≡ 28 + 2 * length ends → len ≡ first + length steps → len ≤ length out
-    → a ≡ pasted out 0 (frontOf block (length ends)) → b ≡ pasted a 28 (offsetsOf first ends) → after ≡ pasted b first steps
+pub pack-put : (block ends steps out a b after : List ℕ) (first len : ℕ) → length block ≡ blockLength → first ≡ shortest + 2 * length ends → len ≡ first + length steps → len ≤ length out
+    → a ≡ pasted out 0 (frontOf block (length ends)) → b ≡ pasted a shortest (offsetsOf first ends) → after ≡ pasted b first steps
     → BuiltAs (written (accepted (packFrom block ends steps)) out) (Length len) after
 unfolding packFrom
 pack-put block ends steps out a b after first len h q w l ea eb ec =
     let F : List ℕ = frontOf block (length ends) in
     let O : List ℕ = offsetsOf first ends in
     let z : 0 ≤ length out = omega arith in
-    let fl : length F ≡ 28 = front-length block (length ends) h in
-    let two-parts : b ≡ pasted out 0 (F ++ O) = eb ∙ ap (λ (x : List ℕ). pasted x 28 O) ea ∙ pasted-more out F O 0 28 (omega arith) z in
+    let fl : length F ≡ shortest = front-length block (length ends) h in
+    let two-parts : b ≡ pasted out 0 (F ++ O) = eb ∙ ap (λ (x : List ℕ). pasted x shortest O) ea ∙ pasted-more out F O 0 shortest (omega arith) z in
     let all : after ≡ pasted out 0 ((F ++ O) ++ steps) =
     ec ∙ ap (λ (x : List ℕ). pasted x first steps) two-parts
     ∙ pasted-more out (F ++ O) steps 0 first (omega (arith, length-append F O, offsets-length first ends)) z in

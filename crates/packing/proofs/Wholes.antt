@@ -13,6 +13,7 @@ use native.Mathlib.Omega.{arith}
 use lib.ListN.{length, getD, take, drop, length-append, length-map}
 use lib.Seq.{take-at}
 use borrow.Author.Tests.{le-leb, lt-leb}
+use Rattle.rules.specs.Blocks.{blockLength}
 use Rattle.rules.specs.Jobs.{Job}
 use Rattle.rules.specs.Counts.{countOf}
 use Rattle.rules.specs.Numbers.{edgeOf}
@@ -20,7 +21,7 @@ use Rattle.rules.specs.Refusals.{Answer, andThen, refusalNumber}
 use Rattle.rules.specs.Refusals.Refusal.{many}
 use Rattle.rules.specs.Refusals.Answer.{accepted, refused}
 use Rattle.rules.specs.Answers.{knownJob, countAnswer, written}
-use Rattle.rules.specs.Packs.{mark, two, joined, offsets, packBytes}
+use Rattle.rules.specs.Packs.{shortest, mark, two, joined, offsets, packBytes}
 use Rattle.rules.specs.Questions.{edgesAnswer, packedAnswer, packAnswer}
 use Rattle.rules.proofs.Answering.{edges-told}
 use Rattle.rules.proofs.Demand3.{then-passed}
@@ -82,7 +83,7 @@ module _ (b ns : List ℕ) where
       go (refused x) e = sym (ap (λ (a : Answer (List (List ℕ))). andThen a (λ es. accepted (packBytes b es))) (edges-told b ns x e))
 
   -- as many edges as numbers, of a block of 20 bytes
-  edges-many : (es : List (List ℕ)) → edgesAnswer b ns ≡ accepted es → (length es ≡ length ns) × (length b ≡ 20)
+  edges-many : (es : List (List ℕ)) → edgesAnswer b ns ≡ accepted es → (length es ≡ length ns) × (length b ≡ blockLength)
   unfolding edgesAnswer
   edges-many es e =
       let (J, known, q) = then-passed (knownJob b) _ es e in
@@ -101,11 +102,11 @@ pub from-ends : (b : List ℕ) (es : List (List ℕ)) → packFrom b (endsFrom 0
 unfolding packFrom packBytes
 from-ends b es =
     let c : length (endsFrom 0 es) ≡ length es = length-ends 0 es in
-    let first : ℕ = 28 + 2 * length es in
+    let first : ℕ = shortest + 2 * length es in
     let zero-more : first + 0 ≡ first = omega arith in
     let o : offsets first es ≡ two first ++ offsetsOf first (endsFrom 0 es) =
     sym (ap (λ (k : ℕ). offsets k es) zero-more) ∙ offsets-ends first 0 es ∙ ap (λ (k : ℕ). two k ++ offsetsOf first (endsFrom 0 es)) zero-more in
-    ap (λ (k : ℕ). frontOf b k ++ (offsetsOf (28 + 2 * k) (endsFrom 0 es) ++ joined es)) c
+    ap (λ (k : ℕ). frontOf b k ++ (offsetsOf (shortest + 2 * k) (endsFrom 0 es) ++ joined es)) c
     ∙ ap (λ (z : List ℕ). mark ++ z)
     (append-assoc b (two (length es) ++ two first) (offsetsOf first (endsFrom 0 es) ++ joined es)
     ∙ ap (λ (z : List ℕ). b ++ (two (length es) ++ z))

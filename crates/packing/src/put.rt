@@ -4,7 +4,7 @@ ghost use Prim.Native.Nat.{_+_, _*_, _≤_, _<_};
 ghost use lib.ListN.{length};
 ghost use Rattle.rules.specs.Refusals.Answer.{accepted};
 ghost use Rattle.rules.specs.Answers.{written};
-ghost use Rattle.rules.specs.Packs.{two};
+ghost use Rattle.rules.specs.Packs.{shortest, two};
 ghost use Rattle.job.specs.Replies.{BuiltAs};
 ghost use Rattle.packing.specs.Packing.{pasted, frontOf, offsetsOf, packFrom, Packed, Headed, Places};
 use job::Built;
@@ -41,7 +41,7 @@ fn put_front(out: &mut [u8], block: &[u8], c: usize)
 // The other offsets: where each edge ends.
 fn put_offsets(out: &mut [u8], first: usize, ends: &[usize])
     requires { ⌜ Places (now out) first (now ends) ⌝ }
-    ensures { λ _. ⌜ now (out .exit) ≡ pasted (now (out .entry)) 28 (offsetsOf first (now (ends .entry))) ⌝ }
+    ensures { λ _. ⌜ now (out .exit) ≡ pasted (now (out .entry)) shortest (offsetsOf first (now (ends .entry))) ⌝ }
 {
     let mut i: usize = 0;
     while i < ends.len() {

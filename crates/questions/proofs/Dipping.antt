@@ -29,7 +29,7 @@ use Rattle.rules.specs.Jobs.{Pair, one, stepsOf, stays}
 use Rattle.rules.specs.Jobs.Job.{directed}
 use Rattle.rules.specs.Valid.{place, at, walks, isEdge, Valid}
 use Rattle.rules.specs.Places.{placeOf}
-use Rattle.rules.specs.Shear.{Is}
+use Rattle.rules.proofs.Shear.{Is}
 use Rattle.rules.specs.Refusals.{Answer, check, andThen, refusalNumber}
 use Rattle.rules.specs.Refusals.Refusal.{not-an-edge, kind}
 use Rattle.rules.specs.Refusals.Answer.{accepted, refused}

@@ -9,7 +9,7 @@ use Prim.Native.Nat.{ℕ, _-_, _≤_, _<_}
 use lib.ListN.{length, getD}
 use Rattle.rules.specs.Jobs as rules
 use Rattle.rules.specs.Jobs.{one}
-use Rattle.rules.specs.Shear.{Is}
+use Rattle.rules.proofs.Shear.{Is}
 use Rattle.rules.specs.Questions.{slope, dipOf}
 use Rattle.job.specs.declared.Job.{Job}
 use Rattle.job.specs.Replies.Reply.{value}

@@ -2,10 +2,10 @@
 --
 --   plain-form                     the steps and the end are a form
 --   plainShape c                   the steps and the end as a shape, which shows the job's own grid, mirrored where n is below m
---   plain-steps                    the steps are those of a plain, and lead to the end
+--   plain-steps                    the steps are those of families 1 and 3, and lead to the end
 --   plain-counts                   a count by rows is the job's
 --   plain-over                     the count where the end is above height 33
---   plain-ready, plain-last, plain-more    all that filling asks, for as many cells as there are, for the largest table, and for a larger one
+--   plain-ready, plain-last        all that filling asks, for as many cells as there are, and for the largest table
 --   plain-numbers, plain-builds    what the plan's table says is the job's
 --   plain-level, plain-answer     what holds of a held job of family 1 or 3
 use mathlib.Core.Path.{_≡_, refl, sym, ap, _∙_, subst}
@@ -16,7 +16,7 @@ use Prim.Native.Nat.{ℕ, _+_, _*_, _-_, _^_, _≤_, _<_}
 use native.Mathlib.Decide.{decLt}
 use native.Mathlib.Omega.{arith}
 use lib.Dec.{T, ltb, leb, eqb, leb→le, eqb→eq}
-use lib.ListN.{length, getD, replicate, length-replicate}
+use lib.ListN.{length, getD}
 use borrow.Author.Tests.{lt-ltb, le-ltb, ltb-true, ltb-false}
 use Rattle.howmany.specs.Choose.{pick, bit}
 use Rattle.howmany.proofs.Choices.{and-left, and-right}
@@ -24,23 +24,22 @@ use Rattle.howmany.proofs.Cases.{two, three, eight}
 use Rattle.rules.specs.Jobs as rules
 use Rattle.rules.specs.Jobs.Job.{north-east, dyck, delannoy, schroder, motzkin, directed}
 use Rattle.rules.specs.Counts.{countOf}
-use Rattle.rules.specs.Shear.{gridOf}
+use Rattle.rules.proofs.Shear.{gridOf}
 use Rattle.rules.specs.Blocks.{familyOf, plain, jobAnswer}
 use Rattle.rules.specs.Refusals.Answer.{accepted}
-use Rattle.rules.specs.Ranges.{InRange}
+use Rattle.rules.proofs.Ranges.{InRange}
 use Rattle.job.specs.Replies.{reply, countSays}
 use Rattle.job.specs.declared.Counted.{Counted}
 use Rattle.job.specs.declared.Job.{Job}
 use Rattle.job.specs.declared.Built.{Built}
 use Rattle.job.specs.Stands.{Level, Stands}
 use Rattle.job.specs.Stands.Stands.{as-north-east, as-dyck, as-delannoy, as-schroder, as-motzkin, as-open, as-fenced}
-use Rattle.job.proofs.Puts.{zeros-at}
 use Rattle.job.proofs.Standing.{Kept}
 use Rattle.lines.specs.declared.Ranked.{Ranked}
 use Rattle.plains.specs.Plains.{ends}
 use Rattle.plains.proofs.Ends.{ends-over}
 use Rattle.tables.specs.Form.{Form, spot}
-use Rattle.tables.specs.Shapes.{Grids, isLettered, Fits}
+use Rattle.tables.specs.Shapes.{isLettered, Fits}
 use Rattle.tables.specs.Shapes.Shows.{slid, mirrored}
 use Rattle.tables.specs.Table.{Offsets}
 use Rattle.tables.specs.Plans.{strideFor, cellsFor, Planned, PlanOf}
@@ -50,7 +49,7 @@ use Rattle.rows.specs.Plains.{plainOf, plainJob, plainCount, plainPlan, 
 use Rattle.rows.specs.declared.plain.Plain.{Plain}
 use Rattle.tables.specs.declared.Shape.{Shape}
 use Rattle.tables.proofs.Walls.{wall-none}
-use Rattle.tables.proofs.Lowering.{product}
+use Rattle.tables.proofs.Laws.{mul-bound}
 use Rattle.tables.proofs.Prepare.{form-pos}
 use Rattle.tables.proofs.Planning.{prepared-for, prepared-last}
 use Rattle.tables.proofs.Counted.{plan-numbers}
@@ -100,7 +99,7 @@ plain-form k sa sc ex ey la lc some most t lx ly = record {
   f-le = omega arith;
   ex-le = lx;
   ey-le = omega arith;
-  cells = product (ex + 2) (1 + ey + 1) 99 35 3712 (omega arith) (omega arith) (omega arith);
+  cells = omega (arith, mul-bound (ex + 2) (1 + ey + 1) 99 35 (omega arith) (omega arith));
 }
   where
     low : (i : ℕ) → i < 8 → Dec (i < k) → getD sc i 0 ≤ 1
@@ -109,7 +108,7 @@ plain-form k sa sc ex ey la lc some most t lx ly = record {
 
 -- ---- the grid
 
--- the shape of a plain, with the end at n and E going up where t, else at m and N
+-- the shape of such a job, with the end at n and E going up where t, else at m and N
 abbrev shapeBy : Bool → Bool → ℕ → ℕ → Shape
 shapeBy t d n m = record {
   state = 0;
@@ -186,7 +185,7 @@ many : (d : Bool) → (1 ≤ pick d 3 2) × (pick d 3 2 ≤ 4)
 many true = (omega arith, omega arith)
 many false = (omega arith, omega arith)
 
--- the steps are those of a plain, and lead to the end
+-- the steps are those of families 1 and 3, and lead to the end
 steps-plain : (t d : Bool) (n m : ℕ) → PlainSteps (pick d 3 2) 0 (shapeBy t d n m .sa) (shapeBy t d n m .sc) 6 1 (n + m) (pick t n m)
 steps-plain t d n m = record {
   plain = record { level = refl; many = many-is d; one = refl; two = refl; rise = rise-is t; third = third-is d };
@@ -221,13 +220,6 @@ module _ (c : Plain) where
   range = go (c .diagonal)
     where
       go : (d : Bool) → InRange (jobBy d (c .n) (c .m))
-      go true = tt
-      go false = tt
-
-  grids : Grids (plainJob c)
-  grids = go (c .diagonal)
-    where
-      go : (d : Bool) → Grids (jobBy d (c .n) (c .m))
       go true = tt
       go false = tt
 
@@ -299,10 +291,10 @@ module _ (c : Plain) {y : ℕ} (ey : y ≡ plainPlan c .ey) where
     plain-last = prepared-last (planned c w low) (offs c)
 
     pub plain-numbers : (es : List (List ℕ)) (before after : List ℕ) (x : Ranked) → PlainNumbers c es before after x → NumbersOf (plainJob c) es before after x
-    plain-numbers es before after x h = plan-numbers (plainJob c) (plainShape c) (range c) shown (plan-of c w low) (letters c) (grids c) es before after x h
+    plain-numbers es before after x h = plan-numbers (plainJob c) (plainShape c) (range c) shown (plan-of c w low) (letters c) es before after x h
 
     pub plain-builds : (ns steps ends : List ℕ) (x : Built) (t u : List ℕ) → PlainBuilds c ns steps ends t u x → BuildsOf (plainJob c) ns steps ends t u x
-    plain-builds ns steps ends x t u h = plan-builds (plainJob c) (plainShape c) (range c) shown (plan-of c w low) (letters c) (grids c) ns steps ends x t u h
+    plain-builds ns steps ends x t u h = plan-builds (plainJob c) (plainShape c) (range c) shown (plan-of c w low) (letters c) ns steps ends x t u h
 
 -- ---- the held job
 

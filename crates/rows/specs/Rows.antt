@@ -41,7 +41,7 @@ pub record PlainSteps (k f : ℕ) (sa sc : List ℕ) (hi m ex ey : ℕ) : Type 0
   pub deep : m ≡ 1
   pub wide : ey ≤ ex
 
--- the steps sa, sc are a plain's, and can reach the plan's end
+-- the steps sa, sc are those of families 1 and 3, and can reach the plan's end
 abbrev pub PlainStepsFor : Plan → List ℕ → List ℕ → Type 0
 PlainStepsFor p sa sc = PlainSteps (p .k) (p .f) sa sc (p .hi) (p .m) (p .ex) (p .ey)
 

@@ -17,7 +17,7 @@ use Rattle.howmany.proofs.Choices.{and-left, and-right, is-false}
 use Rattle.rules.specs.Points.{height}
 use Rattle.rules.specs.Jobs.{Job}
 use Rattle.rules.specs.Jobs.Job.{north-east, dyck, delannoy, schroder, motzkin, directed}
-use Rattle.rules.specs.Blocks.{familyOf, nOf, mOf, used, plain, square, paired, zeros, unused, formed, sizedLettered, sizedDirected, sized, jobIn, jobAnswer}
+use Rattle.rules.specs.Blocks.{blockLength, familyOf, nOf, mOf, used, plain, square, paired, zeros, unused, formed, sizedLettered, sizedDirected, sized, jobIn, jobAnswer}
 use Rattle.rules.specs.Refusals.Refusal.{form}
 use Rattle.rules.specs.Refusals.Answer.{refused}
 
@@ -35,7 +35,7 @@ module _ (b : List ℕ) (f : T (formed b)) where
   unfolding formed
   family-range =
       let z = zeros (unused b) in
-      let u = and-right (eqb (length b) 20) (leb 1 (familyOf b) && (leb (familyOf b) 7 && z)) f in (
+      let u = and-right (eqb (length b) blockLength) (leb 1 (familyOf b) && (leb (familyOf b) 7 && z)) f in (
         leb→le 1 (familyOf b) (and-left (leb 1 (familyOf b)) (leb (familyOf b) 7 && z) u),
         leb→le (familyOf b) 7 (and-left (leb (familyOf b) 7) z (and-right (leb 1 (familyOf b)) (leb (familyOf b) 7 && z) u)),
       )

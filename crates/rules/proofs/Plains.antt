@@ -30,7 +30,7 @@ use Rattle.rules.specs.Valid.{place, at}
 use Rattle.rules.specs.Order.{standing}
 use Rattle.rules.specs.Counts.{L, Dl}
 use Rattle.rules.specs.Numbers.{raised}
-use Rattle.rules.specs.Shear.{Plain, gridOf}
+use Rattle.rules.proofs.Shear.{Plain, gridOf}
 use Rattle.rules.proofs.Letters.{point-eq}
 use Rattle.rules.proofs.Signed.{is-one, is-minus}
 use Rattle.rules.proofs.Sheared.{Back, Shear, Counted}

@@ -2,8 +2,9 @@
 --
 --   seek-here, seek-more, seek-end, seek-in, seek-start    the loop of `seek`
 --   unr, unr-start, unr-step     the steps of the edge of a number, the last one first
+--   via-pos, W-in                where there are walks, the step and the spot are inside
 --   write-turn, write-done       a byte written in front of the others, and all of them
---   Writing, writing-start, written, write-as, write-from, writing-end    the loop of `spell`
+--   Writing, writing-start, reads-of, left-of, Written, written, write-as, write-from, writing-end    the loop of `spell`
 use mathlib.Core.Path.{_≡_, refl, sym, ap, ap₂, _∙_}
 use mathlib.Core.Bool.{Bool}
 use mathlib.Core.Option.{Option, some}

@@ -20,33 +20,29 @@ use Rattle.howmany.proofs.Choices.{holds}
 use Rattle.rules.specs.Jobs as rules
 use Rattle.rules.specs.Counts.{countOf}
 use Rattle.rules.specs.Numbers.{edgeOf}
-use Rattle.rules.specs.Blocks.{jobAnswer}
 use Rattle.rules.specs.Refusals.{check, refusalNumber}
 use Rattle.rules.specs.Refusals.Refusal.{over, beyond}
 use Rattle.rules.specs.Refusals.Answer.{accepted}
 use Rattle.rules.specs.Answers.{most, written}
 use Rattle.rules.specs.Packs.{joined}
-use Rattle.rules.specs.Questions.{allBelow, edgesAnswer}
-use Rattle.rules.specs.Ranges.{InRange}
-use Rattle.rules.proofs.Answering.{known-told, edges-told, edges-fitted}
+use Rattle.rules.specs.Questions.{allBelow}
+use Rattle.rules.proofs.Ranges.{InRange}
 use Rattle.rules.proofs.Belows.{below-at, below-not}
 use Rattle.job.specs.Replies.{BuiltAs}
 use Rattle.job.specs.declared.Built.{Built}
 use Rattle.job.specs.declared.Built.the-variants.{Length, Refused}
-use Rattle.job.specs.declared.Job.{Job}
-use Rattle.job.proofs.Standing.{Told}
 use Rattle.lines.specs.Lines.{endsFrom, lined, LinedAs}
 use Rattle.lines.proofs.Lining.{Lining, lining-next, lined-refused}
-use Rattle.tables.specs.Form.{W}
 use Rattle.tables.specs.Edges as edges
-use Rattle.tables.specs.Shapes.{Grids, isLettered, Fits}
+use Rattle.tables.specs.Shapes.{isLettered, Fits}
 use Rattle.tables.specs.Spelling.{Front, edgesFor}
 use Rattle.lines.specs.Known.{edgesOf, BuildsOf}
 use Rattle.tables.specs.Plans.{PlanOf, walksFor, ListsFor, BuildsFor}
 use Rattle.tables.specs.declared.Plan.{Plan}
 use Rattle.tables.specs.declared.Shape.{Shape}
-use Rattle.tables.proofs.Grounds.{shape-count}
+use Rattle.tables.proofs.Gridded.{gridded}
 use Rattle.tables.proofs.Worded.{shape-spells}
+use Rattle.tables.proofs.Counted.{plan-count}
 
 -- ---- one edge, and all of them
 
@@ -110,13 +106,10 @@ same-edges g h c [] e l = refl
 same-edges g h c (n ∷ ns) e l =
     ap (λ (z : List ℕ). z ∷ map g ns) (e n (l 0 (omega arith))) ∙ ap (λ (z : List (List ℕ)). h n ∷ z) (same-edges g h c ns e (λ i b. l (suc i) (omega arith)))
 
-module _ (J : rules.Job) (s : Shape) (r : InRange J) (f : Fits J s) {lettered : Bool} {p : Plan} (po : PlanOf s p) (c : isLettered J ≡ lettered) (g : Grids J) where
+module _ (J : rules.Job) (s : Shape) (r : InRange J) (f : Fits J s) {lettered : Bool} {p : Plan} (po : PlanOf s p) (c : isLettered J ≡ lettered) where
   plan-edges : (ns : List ℕ) → edgesFor lettered (p .k) (p .f) (s .sa) (s .sc) (p .ex) (p .ey) ns ≡ edgesOf J ns
-  plan-edges ns = rw (← c, po .k-is, po .f-is, po .ex-is, po .ey-is, same) (go (allBelow (countOf J) ns) refl)
+  plan-edges ns = rw (plan-count J s r f po, ← c, po .k-is, po .f-is, po .ex-is, po .ey-is) (go (allBelow (countOf J) ns) refl)
     where
-      same : W (s .k) (s .f) (s .sa) (s .sc) (s .ex) (s .ey) ≡ countOf J
-      same = shape-count J s r f
-
       by : ℕ → List ℕ
       by = edges.edgeOf (isLettered J) (s .k) (s .f) (s .sa) (s .sc) (s .ex) (s .ey)
 
@@ -124,7 +117,7 @@ module _ (J : rules.Job) (s : Shape) (r : InRange J) (f : Fits J s) {lettered : 
           → check (leb (countOf J) most) over (check t beyond (accepted (map by ns))) ≡ check (leb (countOf J) most) over (check t beyond (accepted (map (edgeOf J) ns)))
       go true e =
           ap (λ (z : List (List ℕ)). check (leb (countOf J) most) over (accepted z))
-          (same-edges by (edgeOf J) (countOf J) ns (λ q l. shape-spells J s g r f q (omega (arith, same))) (below-at (countOf J) ns (holds e)))
+          (same-edges by (edgeOf J) (countOf J) ns (shape-spells (gridded J r (f .end) (f .sits)) s (f .shows)) (below-at (countOf J) ns (holds e)))
       go false e = refl
 
   pub plan-builds : (ns steps ends : List ℕ) (x : Built) (t u : List ℕ) → BuildsFor lettered p (s .sa) (s .sc) ns steps ends t u x → BuildsOf J ns steps ends t u x

@@ -2,6 +2,7 @@
 --
 --   source-left, source-in    where a step finds what it brings
 --   rows, grow, one-more      rows of cells
+--   ends-back                 from one step back the end can still be reached
 --   brings                    what stands where a step comes from is what it brings
 --   none-below, none-above    a height that matters and isn't in the run has no walks
 --   sheet-next, sheet-same    the sheet after a column, and where a column has no height that matters
@@ -9,13 +10,14 @@
 --   column-table              the table after it
 --   pow-small, most-small, empty-small    when the next column needs no test
 --   empty-table               the table after a column with no height that matters
-use mathlib.Core.Path.{_≡_, sym, ap, _∙_}
+use mathlib.Core.Path.{_≡_, refl, sym, ap, _∙_}
 use mathlib.Core.List.{List}
 use Prim.Native.Nat.{ℕ, _+_, _-_, _*_, _^_, _≤_, _<_}
 use native.Mathlib.Omega.{arith}
 use native.Mathlib.Decide.{decLe, decLt}
 use native.Mathlib.Nat.{mul-add, add-mul, mul-le-mul-right, le-trans}
 use lib.ListN.{length, getD}
+use borrow.Author.Count.{below-more}
 use borrow.Author.Tests.{lt-ltb, le-ltb}
 use Rattle.howmany.specs.Sum.{sum}
 use Rattle.howmany.proofs.Sums.{sum-cong}
@@ -46,6 +48,12 @@ module _ (s : ℕ) where
   pub one-more : (u : ℕ) → (u + 1) * s ≡ u * s + s
   one-more u = let e : 1 * s ≡ s = omega arith in add-mul u 1 s ∙ ap (λ (z : ℕ). u * s + z) e
 
+pub ends-back : {k : ℕ} {sa sc : List ℕ} {hi m ex : ℕ} → Slopes k sa sc hi m ex → (ey x y i : ℕ) → x ≤ ex → Ends hi ex ey x y → i < 8 → getD sa i 0 ≤ x → getD sc i 0 ≤ y
+    → Ends hi ex ey (x - getD sa i 0) (y - getD sc i 0)
+ends-back {sa = sa} {hi = hi} {ex = ex} pl ey x y i lx en l ha hc =
+    let e : ex - (x - getD sa i 0) ≡ ex - x + getD sa i 0 = omega arith in
+    (omega (arith, en .0), omega (arith, en .1, pl .steep i l (omega arith), mul-add hi (ex - x) (getD sa i 0), ap (λ (z : ℕ). hi * z) e))
+
 module _ {k f : ℕ} {sa sc off : List ℕ} {hi m ex ey : ℕ} (pl : Slopes k sa sc hi m ex) (of : Offsets sa sc off (strideOf m ey)) {A : Type 0} {T : ℕ → A} {at : ℕ → A} {x : ℕ} (tb : Cells T at k f sa sc hi m ex ey x) (px : 1 ≤ x) (lx : x ≤ ex) where
   -- what stands where a step comes from
   module _ (from t i : ℕ) (li : i < 8) (le : from + t ≤ ey) (en : 6 * ey ≤ 6 * (from + t) + hi * (ex - x)) where
@@ -70,16 +78,13 @@ module _ {k f : ℕ} {sa sc off : List ℕ} {hi m ex ey : ℕ} (pl : Slopes k sa
           | yes ha ↦ rw (source-in sa off x (place m ey x from) i ha)
               (elim (decLe (getD sc i 0) (from + t)) [
                 | yes hc ↦ rw (spot ha hc) (tb .right (x - getD sa i 0) (from + t - getD sc i 0) (omega (arith, pl .pos i li))
-                    (omega arith, omega (arith, pl .steep i li (omega arith), mul-add hi (ex - x) (getD sa i 0), ap (λ (z : ℕ). hi * z) (further ha)))
+                    (ends-back pl ey x (from + t) i lx (le, en) li ha hc)
                     ∙ ap T (sym (via-in k f sa sc x (from + t) i ha hc)))
                 | no hc ↦ rw (low-spot ha (omega arith)) (tb .margin (x - getD sa i 0 + 1) (m + (from + t) - getD sc i 0) (omega (arith, pl .deep i li (omega arith)))
                     ∙ ap T (sym (via-under k f sa sc x (from + t) i ha (omega arith))))
               ])
           | no ha ↦ rw (source-left sa off x (place m ey x from) i (omega arith)) (tb .front (0 + t) (omega arith) ∙ ap T (sym (via-left k f sa sc x (from + t) i (omega arith))))
         ]
-      where
-        further : getD sa i 0 ≤ x → ex - (x - getD sa i 0) ≡ ex - x + getD sa i 0
-        further ha = omega arith
 
   -- a height that matters and isn't in the run has no walks
   module _ (from to : ℕ) (fr : From f hi ex ey x from) (up : To f hi ey x to) where
@@ -93,7 +98,7 @@ module _ {k f : ℕ} {sa sc off : List ℕ} {hi m ex ey : ℕ} (pl : Slopes k sa
     ]
 
     -- the table after a column
-    module _ (blank : (j : ℕ) → (x + 1) * strideOf m ey ≤ j → at j ≡ T 0) (lt : from < to) (at′ : ℕ → A) (before : (j : ℕ) → j < place m ey x from → at′ j ≡ at j) (after : (j : ℕ) → place m ey x to ≤ j → at′ j ≡ at j)
+    module _ (blank : (j : ℕ) → (x + 1) * strideOf m ey ≤ j → at j ≡ T 0) (at′ : ℕ → A) (before : (j : ℕ) → j < place m ey x from → at′ j ≡ at j) (after : (j : ℕ) → place m ey x to ≤ j → at′ j ≡ at j)
         (here : (y : ℕ) → from ≤ y → y < to → at′ (place m ey x y) ≡ T (W k f sa sc x y)) where
       at-x : (y : ℕ) → Ends hi ex ey x y → at′ (place m ey x y) ≡ T (W k f sa sc x y)
       at-x y en =
@@ -108,10 +113,8 @@ module _ {k f : ℕ} {sa sc off : List ℕ} {hi m ex ey : ℕ} (pl : Slopes k sa
       pub sheet-next : Sheet T at′ k f sa sc hi m ex ey (x + 1)
       sheet-next = record {
         cells = record {
-          right = λ u y l en. elim (decLt u x) [
-            | yes h ↦ before (place m ey u y) (omega (arith, en .0, one-more (strideOf m ey) (u + 1), grow (strideOf m ey) (u + 1 + 1) (x + 1) (omega arith))) ∙ tb .right u y h en
-            | no h ↦ same u y l h en
-          ];
+          right = λ u y l en. below-more (λ u. (y : ℕ) → Ends hi ex ey u y → at′ (place m ey u y) ≡ T (W k f sa sc u y)) x
+              (λ u h y en. before (place m ey u y) (omega (arith, en .0, one-more (strideOf m ey) (u + 1), grow (strideOf m ey) (u + 1 + 1) (x + 1) (omega arith))) ∙ tb .right u y h en) at-x u l y en;
           margin = λ u t l. elim (decLe u (x + 1)) [
             | yes h ↦ before (u * strideOf m ey + t) (omega (arith, grow (strideOf m ey) u (x + 1) h)) ∙ tb .margin u t l
             | no h ↦ after (u * strideOf m ey + t) (omega (arith, up .under, one-more (strideOf m ey) (x + 1), grow (strideOf m ey) (x + 1 + 1) u (omega arith))) ∙ tb .margin u t l
@@ -120,26 +123,10 @@ module _ {k f : ℕ} {sa sc off : List ℕ} {hi m ex ey : ℕ} (pl : Slopes k sa
         };
         blank = λ j l. after j (omega (arith, up .under, one-more (strideOf m ey) (x + 1))) ∙ blank j (omega (arith, one-more (strideOf m ey) (x + 1)));
       }
-        where
-          same : (u y : ℕ) → u < x + 1 → (u < x → ⊥) → Ends hi ex ey u y → at′ (place m ey u y) ≡ T (W k f sa sc u y)
-          same u y l h en = let e : u ≡ x = omega arith in rw e (at-x y (rw e at en))
 
     -- the table where the column has no height that matters
     pub sheet-same : ((j : ℕ) → (x + 1) * strideOf m ey ≤ j → at j ≡ T 0) → to ≤ from → Sheet T at k f sa sc hi m ex ey (x + 1)
-    sheet-same blank le = record {
-      cells = record {
-        right = λ u y l en. elim (decLt u x) [ yes h ↦ tb .right u y h en | no h ↦ same u y l h en ];
-        margin = tb .margin;
-        front = tb .front;
-      };
-      blank = λ j l. blank j (omega (arith, one-more (strideOf m ey) (x + 1)));
-    }
-      where
-        none : (y : ℕ) → Ends hi ex ey x y → W k f sa sc x y ≡ 0
-        none y en = elim (decLt y from) [ yes l ↦ none-below y en l | no l ↦ none-above y en (omega arith) ]
-
-        same : (u y : ℕ) → u < x + 1 → (u < x → ⊥) → Ends hi ex ey u y → at (place m ey u y) ≡ T (W k f sa sc u y)
-        same u y l h en = let e : u ≡ x = omega arith in rw e (blank (place m ey x y) (omega arith) ∙ ap T (sym (none y (rw e at en))))
+    sheet-same blank le = sheet-next blank at (λ j l. refl) (λ j l. refl) (λ y p q. absurd (omega arith))
 
 module _ {k f : ℕ} {sa sc off : List ℕ} {hi m ex ey : ℕ} (pl : Slopes k sa sc hi m ex) (of : Offsets sa sc off (strideOf m ey)) (val : List ℕ) {x : ℕ} (tb : Table k f sa sc hi m ex ey val x) (px : 1 ≤ x) (lx : x ≤ ex) where
   module _ (n : ℕ) (n-pos : 1 ≤ n) (n-le : n ≤ 8) (gone : (i : ℕ) → n ≤ i → i < 8 → ex < getD sa i 0) (from to : ℕ) (fr : From f hi ex ey x from) (up : To f hi ey x to) where
@@ -164,24 +151,26 @@ module _ {k f : ℕ} {sa sc off : List ℕ} {hi m ex ey : ℕ} (pl : Slopes k sa
         arith,
         sum-le (via k f sa sc x (from + t)) 2305843009213693951 n
             (λ i li. via-any k f sa sc (λ v. v ≤ 2305843009213693951) x (from + t) i (omega arith)
-            (λ ha hc. sm .small (x - getD sa i 0) (from + t - getD sc i 0) (omega (arith, pl .pos i (omega arith))) (back-ends t (omega arith) i (omega arith) ha hc))),
+            (λ ha hc. sm .small (x - getD sa i 0) (from + t - getD sc i 0) (omega (arith, pl .pos i (omega arith))) (ends-back pl ey x (from + t) i lx (ends-at t (omega arith)) (omega arith) ha hc))),
       ));
     }
-      where
-        back-ends : (t : ℕ) → from + t < to → (i : ℕ) → i < 8 → getD sa i 0 ≤ x → getD sc i 0 ≤ from + t → Ends hi ex ey (x - getD sa i 0) (from + t - getD sc i 0)
-        back-ends t l i li ha hc = let e : ex - (x - getD sa i 0) ≡ ex - x + getD sa i 0 = omega arith in
-            (omega (arith, ends-at t l .0), omega (arith, ends-at t l .1, pl .steep i li (omega arith), mul-add hi (ex - x) (getD sa i 0), ap (λ (z : ℕ). hi * z) e))
 
   small-next : Small k f sa sc hi ex ey x → ((y : ℕ) → Ends hi ex ey x y → W k f sa sc x y ≤ 2305843009213693951) → Small k f sa sc hi ex ey (x + 1)
-  small-next sm all = record { small = λ u y l en. elim (decLt u x) [ yes h ↦ sm .small u y h en | no h ↦ same u y l h en ] }
-    where
-      same : (u y : ℕ) → u < x + 1 → (u < x → ⊥) → Ends hi ex ey u y → W k f sa sc u y ≤ 2305843009213693951
-      same u y l h en = let e : u ≡ x = omega arith in rw e (all y (rw e at en))
+  small-next sm all = record {
+    small = λ u y l en. below-more (λ u. (y : ℕ) → Ends hi ex ey u y → W k f sa sc u y ≤ 2305843009213693951) x (λ u h y en. sm .small u y h en) all u l y en;
+  }
 
   pub pow-small : (n : ℕ) → 1 ≤ n → n ≤ 8 → ((i : ℕ) → n ≤ i → i < 8 → ex < getD sa i 0) → (top : ℕ) → n ^ top ≤ 2305843009213693951 → x ≤ top → Small k f sa sc hi ex ey x → Small k f sa sc hi ex ey (x + 1)
   pow-small n n-pos n-le gone top le l sm = small-next sm (λ y en. le-trans (W-pow k f sa sc pl n n-pos n-le gone top x y l lx) le)
 
   module _ (from to : ℕ) (fr : From f hi ex ey x from) (up : To f hi ey x to) where
+    -- no sum is large if none of the run is
+    run-small : Small k f sa sc hi ex ey x → ((y : ℕ) → from ≤ y → y < to → W k f sa sc x y ≤ 2305843009213693951) → Small k f sa sc hi ex ey (x + 1)
+    run-small sm here = small-next sm (λ y en. elim (decLt y from) [
+      | yes l ↦ omega (arith, none-below pl of (tb .cells) px lx from to fr up y en l)
+      | no l ↦ elim (decLe to y) [ yes q ↦ omega (arith, none-above pl of (tb .cells) px lx from to fr up y en q) | no q ↦ here y (omega arith) (omega arith) ]
+    ])
+
     -- the table after a column
     module _ (n : ℕ) (n-pos : 1 ≤ n) (n-le : n ≤ 8) (gone : (i : ℕ) → n ≤ i → i < 8 → ex < getD sa i 0) (lt : from < to) (val′ : List ℕ) (co : Column n val val′ sa off x (place m ey x from) (to - from)) where
       here-at : (y : ℕ) → from ≤ y → y < to → getD val′ (place m ey x y) 0 ≡ W k f sa sc x y
@@ -191,25 +180,18 @@ module _ {k f : ℕ} {sa sc off : List ℕ} {hi m ex ey : ℕ} (pl : Slopes k sa
           rw g (co .here (y - from) (omega arith) ∙ sums-are n n-pos n-le gone from to fr up (y - from) (omega arith) ∙ ap (W k f sa sc x) e)
 
       pub column-table : Table k f sa sc hi m ex ey val′ (x + 1)
-      column-table = sheet-next pl of (tb .cells) px lx from to fr up (tb .blank) lt (λ j. getD val′ j 0) (co .before) after-at here-at
+      column-table = sheet-next pl of (tb .cells) px lx from to fr up (tb .blank) (λ j. getD val′ j 0) (co .before) after-at here-at
         where
           after-at : (j : ℕ) → place m ey x to ≤ j → getD val′ j 0 ≡ getD val j 0
           after-at j l = co .after j (omega arith)
 
       pub most-small : (r : ℕ) → Small k f sa sc hi ex ey x → ((i : ℕ) → i < to - from → getD val′ (place m ey x from + i) 0 ≤ r) → r ≤ 2305843009213693951 → Small k f sa sc hi ex ey (x + 1)
-      most-small r sm all le = small-next sm (λ y en. elim (decLt y from) [
-        | yes l ↦ omega (arith, none-below pl of (tb .cells) px lx from to fr up y en l)
-        | no l ↦ elim (decLe to y) [
-          | yes q ↦ omega (arith, none-above pl of (tb .cells) px lx from to fr up y en q)
-          | no q ↦ omega (arith, here-at y (omega arith) (omega arith), all (y - from) (omega arith), spot-of y (omega arith))
-        ]
-      ])
-        where
-          spot-of : (y : ℕ) → from ≤ y → getD val′ (place m ey x y) 0 ≡ getD val′ (place m ey x from + (y - from)) 0
-          spot-of y h = let g : place m ey x y ≡ place m ey x from + (y - from) = omega arith in ap (λ (j : ℕ). getD val′ j 0) g
+      most-small r sm all le = run-small sm (λ y p q.
+          let g : place m ey x y ≡ place m ey x from + (y - from) = omega arith in
+          omega (arith, here-at y p q, all (y - from) (omega arith), ap (λ (j : ℕ). getD val′ j 0) g))
 
     pub empty-small : to ≤ from → Small k f sa sc hi ex ey x → Small k f sa sc hi ex ey (x + 1)
-    empty-small le sm = small-next sm (λ y en. elim (decLt y from) [ yes l ↦ omega (arith, none-below pl of (tb .cells) px lx from to fr up y en l) | no l ↦ omega (arith, none-above pl of (tb .cells) px lx from to fr up y en (omega arith)) ])
+    empty-small le sm = run-small sm (λ y p q. absurd (omega arith))
 
     pub empty-table : to ≤ from → Table k f sa sc hi m ex ey val (x + 1)
     empty-table le = sheet-same pl of (tb .cells) px lx from to fr up (tb .blank) le

@@ -1,30 +1,28 @@
 -- Laws of the counts W where a plan is made. Assumes nothing.
 --
 --   pos-of          every step that is there goes on
---   W-all           the count adds up over all eight steps
+--   W-all           the count adds up over all eight steps, since one that isn't there brings 0
 --   W-high          nothing gets higher than the steepest step
 --   W-first         it adds up over the first n, where only those are there
 --   W-pow           then there are no more than n ^ x walks
-use mathlib.Core.Path.{_≡_, refl, sym, ap, _∙_}
+use mathlib.Core.Path.{_≡_, refl, sym, _∙_}
 use mathlib.Core.Bool.{Bool, true, false}
 use mathlib.Core.List.{List}
-use Prim.Native.Nat.{ℕ, zero, suc, _+_, _-_, _*_, _^_, _≤_, _<_}
+use Prim.Native.Nat.{ℕ, zero, suc, _-_, _*_, _^_, _≤_, _<_}
 use native.Mathlib.Omega.{arith}
 use native.Mathlib.Decide.{decLe}
-use native.Mathlib.Nat.{mul-add, pow-zero, pow-succ', pow-le-pow-right, le-trans}
+use native.Mathlib.Nat.{pow-zero, pow-succ', pow-le-pow-right, le-trans}
 use lib.Dec.{T, eqb}
 use lib.ListN.{getD}
 use borrow.Author.Tests.{ne-eqb}
 use Rattle.howmany.specs.Choose.{bit}
 use Rattle.howmany.specs.Sum.{sum}
 use Rattle.howmany.proofs.Sums.{sum-none}
+use Rattle.backward.proofs.Shears.{mul-back}
 use Rattle.tables.specs.Form.{wall, W, via}
 use Rattle.tables.specs.Table.{Slopes}
 use Rattle.tables.proofs.Walls.{tested}
-use Rattle.tables.proofs.Laws.{sum-le, sum-rest, via-any, via-left, W-sum, W-out, W-start}
-
-mul-back : (h x a : ℕ) → a ≤ x → h * (x - a) + h * a ≡ h * x
-mul-back h x a l = let e : x - a + a ≡ x = omega arith in sym (mul-add h (x - a) a) ∙ ap (λ (z : ℕ). h * z) e
+use Rattle.tables.proofs.Laws.{sum-le, sum-rest, via-any, via-left, W-step, W-out, W-start}
 
 start-le : (b : Bool) → bit b ≤ 1
 start-le true = omega arith
@@ -35,7 +33,7 @@ pos-of pl i l = pl .pos i (omega (arith, pl .most))
 
 module _ (k f : ℕ) (sa sc : List ℕ) {hi m ex : ℕ} (pl : Slopes k sa sc hi m ex) where
   pub W-all : (x y : ℕ) → x ≤ ex → 0 < x → T (wall f x y) → W k f sa sc x y ≡ sum (via k f sa sc x y) 8
-  W-all x y e p h = W-sum k f sa sc (pos-of pl) x y (pl .most) (λ i a b. omega (arith, pl .away i a b)) p h
+  W-all x y e p h = W-step k f sa sc (pos-of pl) x y p h ∙ sym (sum-rest (via k f sa sc x y) k 8 (pl .most) (λ i a b. via-left k f sa sc x y i (omega (arith, pl .away i a b))))
 
   W-high-step : (d x y : ℕ) → ((u v : ℕ) → u ≤ d → u ≤ ex → hi * u < 6 * v → W k f sa sc u v ≡ 0) → 0 < x → x ≤ suc d → x ≤ ex → hi * x < 6 * y → W k f sa sc x y ≡ 0
   W-high-step d x y ih q p e h =

@@ -3,11 +3,11 @@
 --   sum-more                         the sum with one term more
 --   sum-le                           terms of at most b
 --   sum-rest                         the terms from n on are 0
+--   mul-bound                        a bound of a product
 --   onward                           every step goes on, and the wall lets a walk begin
 --   W-start, W-out, W-step           the counts of column 0, beyond the wall, and elsewhere
 --   via-left, via-under, via-in      what a step brings
 --   via-any                          what holds of 0 and of every count before holds of what a step brings
---   via-none, W-sum                  a step that isn't there brings 0, so the sum over all eight is the count
 --   cap-lt, cap-ge, cap-count, cap-over, count-over, cell-zero, cell-over, cell-value    answers
 --   total-done, total-over, total-more, total-wraps    the loop over the steps
 --   put-is                           a cell written
@@ -94,9 +94,6 @@ module _ (k f : ℕ) (sa sc : List ℕ) where
     pub W-step : (x y : ℕ) → 0 < x → T (wall f x y) → W k f sa sc x y ≡ sum (via k f sa sc x y) k
     unfolding W via
     W-step x y p h = paths-step (stepsIn k f sa sc) (onward k f sa sc pos) (spot x y) p h
-
-    pub W-sum : (x y : ℕ) → k ≤ 8 → ((i : ℕ) → k ≤ i → i < 8 → x < getD sa i 0) → 0 < x → T (wall f x y) → W k f sa sc x y ≡ sum (via k f sa sc x y) 8
-    W-sum x y l gone p h = W-step x y p h ∙ sym (sum-rest (via k f sa sc x y) k 8 l (λ i a b. via-left x y i (gone i a b)))
 
 -- ---- answers
 

@@ -9,9 +9,8 @@ pub mod Reading
 pub mod Numbers
 pub mod Building
 pub mod Lowering
+pub mod Gridded
 pub mod Shaping
-pub mod Grounds
 pub mod Counted
-pub mod Tabled
 pub mod Worded
 pub mod Builds

@@ -1,8 +1,7 @@
 -- Laws of lower heights: slopes and heights over one step more, and what a shape in lower heights shows. Assumes nothing.
 --
---   product                                 a bound of a product
 --   Until, until-none, until-more, until-idle, until-all    a loop of which only the first k turns do something
---   slope-low, slope-high                   a step's slope, by which number of columns it has
+--   slope-low, slope-high                   a step's slope, by how many columns it goes on
 --   bounds-none, bounds-low, bounds-high, bounds-at    a slope that bounds the first steps, one step more, all steps
 --   heights-none, heights-more              the heights of the first steps, and of one more
 --   view-lowered                            a shape slid down or mirrored shows what it did
@@ -12,26 +11,27 @@ use mathlib.Core.Path.{_≡_, refl, ap, _∙_, subst}
 use mathlib.Core.Bool.{Bool, true, false}
 use mathlib.Core.List.{List}
 use Prim.Native.Nat.{ℕ, _+_, _*_, _-_, _≤_, _<_}
-use native.Mathlib.Decide.{decLt, ℕ-discrete}
+use native.Mathlib.Decide.{decLt}
 use native.Mathlib.Nat.{not-suc-le-zero, mul-le-mul, le-trans, le-refl}
 use native.Mathlib.Omega.{arith}
+use borrow.Author.Count.{below-more}
 use lib.ListN.{getD, set, replicate, length-set}
-use lib.Seq.{getD-set-same, getD-set-other}
+use lib.Seq.{getD-set-other}
 use Rattle.howmany.proofs.Cases.{eight}
 use Rattle.backward.specs.Walk.{enter}
 use Rattle.backward.specs.Grid.{Spot, Steps, grid, way}
 use Rattle.backward.specs.Shears.{Slid}
 use Rattle.backward.proofs.Carried.{Barren}
 use Rattle.backward.proofs.Shears.{below-barren, above-barren, enter-barren}
+use Rattle.job.proofs.Puts.{zeros-at}
 use Rattle.tables.specs.Heights.{Height, Bounds, Heights, Turned}
 use Rattle.tables.specs.Shapes.{FormOf, Shows, stepsAt, endAt, Beyond, Lowered, View}
 use Rattle.tables.specs.Shapes.Shows.{slid, mirrored}
 use Rattle.tables.specs.Shapes.Beyond.{below, above}
 use Rattle.tables.specs.Shapes.Lowered.{reached}
 use Rattle.tables.specs.declared.Shape.{Shape}
-
-pub product : (a b c d n : ℕ) → a ≤ c → b ≤ d → c * d ≤ n → a * b ≤ n
-product a b c d n l h e = le-trans (mul-le-mul l h) e
+use Rattle.tables.proofs.Walls.{set-more}
+use Rattle.tables.proofs.Laws.{mul-bound}
 
 -- ---- loops
 
@@ -65,18 +65,16 @@ bounds-none t d sa sc l = record { small = l; each = λ i h. absurd (not-suc-le-
 
 module _ (sa sc : List ℕ) (d e i : ℕ) where
   pub bounds-low : Bounds false d i sa sc → e ≤ d → e * getD sa i 0 ≤ getD sc i 0 → Bounds false e (i + 1) sa sc
-  bounds-low b l h = record { small = omega (arith, b .small); each = λ j k. go j k (ℕ-discrete j i) }
-    where
-      go : (j : ℕ) → j < i + 1 → Dec (j ≡ i) → e * getD sa j 0 ≤ getD sc j 0
-      go j k (yes q) = rw q h
-      go j k (no f) = le-trans (mul-le-mul l (le-refl (getD sa j 0))) (b .each j (omega arith))
+  bounds-low b l h = record {
+    small = omega (arith, b .small);
+    each = below-more (λ j. e * getD sa j 0 ≤ getD sc j 0) i (λ j k. le-trans (mul-le-mul l (le-refl (getD sa j 0))) (b .each j k)) h;
+  }
 
   pub bounds-high : Bounds true d i sa sc → d ≤ e → e ≤ 6 → getD sc i 0 ≤ e * getD sa i 0 → Bounds true e (i + 1) sa sc
-  bounds-high b l m h = record { small = m; each = λ j k. go j k (ℕ-discrete j i) }
-    where
-      go : (j : ℕ) → j < i + 1 → Dec (j ≡ i) → getD sc j 0 ≤ e * getD sa j 0
-      go j k (yes q) = rw q h
-      go j k (no f) = le-trans (b .each j (omega arith)) (mul-le-mul l (le-refl (getD sa j 0)))
+  bounds-high b l m h = record {
+    small = m;
+    each = below-more (λ j. getD sc j 0 ≤ e * getD sa j 0) i (λ j k. le-trans (b .each j k) (mul-le-mul l (le-refl (getD sa j 0)))) h;
+  }
 
 -- once every step is passed
 pub bounds-at : {t : Bool} {d i k : ℕ} {sa sc : List ℕ} → Bounds t d i sa sc → i ≡ k → Bounds t d k sa sc
@@ -88,20 +86,16 @@ pub heights-none : (t : Bool) (d : ℕ) (sa sc : List ℕ) → Heights t d sa sc
 heights-none t d sa sc = record {
   eight = refl;
   each = λ j l. absurd (not-suc-le-zero l);
-  flat = λ j l. eight (λ i. _≡_ {A = ℕ} (getD (replicate 8 0) i 0) 0) refl refl refl refl refl refl refl refl j;
+  flat = λ j l h. zeros-at 8 j;
 }
 
 module _ (t : Bool) (d : ℕ) (sa sc up : List ℕ) (i y : ℕ) (w : Heights t d sa sc up i) (l : i < 8) (e : Height t (getD sc i 0) (d * getD sa i 0) y) where
   pub heights-more : Heights t d sa sc (set up i y) (i + 1)
   heights-more = record {
     eight = length-set up i y ∙ w .eight;
-    each = λ j h. at j h (ℕ-discrete j i);
+    each = set-more up i y (λ j v. Height t (getD sc j 0) (d * getD sa j 0) v) (omega (arith, w .eight)) (w .each) e;
     flat = λ j h k. getD-set-other up i j y 0 (λ q. omega arith) ∙ w .flat j (omega arith) k;
   }
-    where
-      at : (j : ℕ) → j < i + 1 → Dec (j ≡ i) → Height t (getD sc j 0) (d * getD sa j 0) (getD (set up i y) j 0)
-      at j h (yes q) = rw (q, getD-set-same up i y 0 (omega (arith, w .eight))) e
-      at j h (no f) = rw (getD-set-other up i j y 0 f) (w .each j (omega arith))
 
 -- ---- a shape slid down or mirrored
 
@@ -147,7 +141,7 @@ module _ (s : Shape) (d f ey : ℕ) (up : List ℕ) where
           f-le = e;
           ex-le = omega arith;
           ey-le = l;
-          cells = product (s .ex + 2) (s .top + ey + 1) 34 109 3712 (omega arith) (omega arith) (omega arith);
+          cells = omega (arith, mul-bound (s .ex + 2) (s .top + ey + 1) 34 109 (omega arith) (omega arith));
         },
         wide,
       )

@@ -5,7 +5,7 @@
 --   Stand                        (x, y) at a cell lies before the end, and its count fits
 --   reads-at, stand-back         what can be read at a cell that stands before the end, and one step back
 --   read-in, read-is, read-more  the loop of `part_sum`
---   Walking, walking-start, last-in, stays-fits, step-in, step-byte, stepped, step-as, ends-fit, walking-end    the loop of `read`
+--   Walking, walking-start, last-in, stays-fits, step-in, step-byte, Stepped, stepped, step-as, ends-fit, walking-end    the loop of `read`
 --   not-inside, not-letter, not-right, not-up, not-start    where it finds that the bytes are no edge
 use mathlib.Core.Path.{_≡_, refl, sym, ap, _∙_, subst}
 use mathlib.Core.Bool.{Bool, false}
@@ -13,7 +13,7 @@ use mathlib.Core.List.{List, _∷_}
 use Prim.Native.Nat.{ℕ, _+_, _-_, _*_, _^_, _≤_, _<_}
 use native.Mathlib.Omega.{arith}
 use native.Mathlib.Decide.{decLe}
-use native.Mathlib.Nat.{mul-add, add-zero}
+use native.Mathlib.Nat.{add-zero}
 use lib.Dec.{T}
 use lib.ListN.{length, getD}
 use borrow.Author.Tests.{eq-eqb, ne-eqb}
@@ -33,7 +33,7 @@ use Rattle.tables.specs.Filling.{Solid, Full}
 use Rattle.tables.specs.Edges.{endOf, numberOf, Reads}
 use Rattle.tables.proofs.Laws.{onward, sum-more, via-in, W-step, cell-value}
 use Rattle.tables.proofs.Counts.{pos-of}
-use Rattle.tables.proofs.Columns.{source-left, source-in, rows, grow, brings}
+use Rattle.tables.proofs.Columns.{source-left, source-in, rows, grow, ends-back, brings}
 use Rattle.tables.proofs.Phases.{last-row}
 use Rattle.tables.proofs.Reading.{wordTo, word-all, word-cons, word-none, back-is, end-in, ok, ok-all, ok-end, ok-out, ok-no-letter, ok-left, ok-under, ok-step}
 
@@ -110,13 +110,10 @@ module _ {p : plans.Plan} {sa sc off val : List ℕ} (fu : Full p sa sc off val)
   pub stand-back : (l a c o : ℕ) → l < p .k → a ≡ getD sa l 0 → c ≡ getD sc l 0 → o ≡ getD off l 0 → getD sa l 0 ≤ x → getD sc l 0 ≤ y → Stand p sa sc (x - a) (y - c) (cell - o)
   stand-back l a c o h ea ec eo ha hc = rw (ea, ec, eo) (record {
     end = omega (arith, sp .end);
-    ends = (omega (arith, sp .ends .0), omega (arith, sp .ends .1, fu .ready .slopes .steep l (eight l h) (omega (arith, sp .end)), mul-add (p .hi) (p .ex - x) (getD sa l 0), ap (λ (z : ℕ). p .hi * z) further));
+    ends = ends-back (fu .ready .slopes) (p .ey) x y l (sp .end) (sp .ends) (eight l h) ha hc;
     at = omega (arith, sp .at, fu .ready .offs .is l (eight l h), rows (strideFor p) x (getD sa l 0) ha);
     fits = omega (arith, via-le l h, sp .fits, via-in (p .k) (p .f) sa sc x y l ha hc);
   })
-    where
-      further : p .ex - (x - getD sa l 0) ≡ p .ex - x + getD sa l 0
-      further = omega (arith, sp .end)
 
 module _ {k f : ℕ} {sa sc off val : List ℕ} {x y p : ℕ} (rd : Reads k f sa sc off val x y p) (i : ℕ) (h : i < k) {s : ℕ} (es : s ≡ sourceOf sa off x p i) where
   pub read-in : s < length val

@@ -28,16 +28,17 @@ use Rattle.tables.specs.declared.Answer.the-variants.{Count, Over}
 use Rattle.tables.specs.declared.Plan.{Plan}
 use Rattle.tables.specs.Form.{W, via}
 use Rattle.tables.specs.Cells.{capOf, cellAt, Put, strideOf, place, sourceOf}
-use Rattle.tables.specs.Table.{Sizes, Prepared, From, To, Cells, Table, Flagged}
+use Rattle.tables.specs.Table.{Sizes, Prepared, From, To, Table, Flagged}
 use Rattle.tables.specs.Plans.{strideFor, cellsFor, PreparedFor, TableFor, FlaggedFor, SmallFor, walksFor}
 use Rattle.tables.specs.Filling.{Begun, Got, Turn, Slow, Part, Parts, Filled, Full}
 use Rattle.tables.proofs.Walls.{wall-in}
 use Rattle.tables.proofs.Laws.{W-start, mul-bound, cap-lt, cap-count, cap-over, count-over, cell-zero}
 use Rattle.tables.proofs.Counts.{pos-of, W-all}
+use Rattle.tables.proofs.Prepare.{ready-more}
 use Rattle.tables.proofs.Columns.{source-left, source-in, rows, grow, one-more, brings, sheet-next, sheet-same}
 
 pub ready-len : {few : Bool} {k f : ℕ} {sa sc off : List ℕ} {hi m ex ey size size′ : ℕ} → Prepared few k f sa sc off hi m ex ey size → size′ ≡ size → Prepared few k f sa sc off hi m ex ey size′
-ready-len r e = record { sizes = r .sizes; slopes = r .slopes; offs = r .offs; fewer = r .fewer; room = rw e (r .room) }
+ready-len r e = ready-more r _ (omega arith)
 
 pub place-sum : (m ey x y : ℕ) → (x + 1) * (m + ey + 1) + m + y ≡ place m ey x y
 place-sum m ey x y = omega arith
@@ -164,7 +165,7 @@ module _ {p : Plan} {sa sc off : List ℕ} {val₀ ov₀ : List ℕ} {x from to 
 
   pub slow-done : {val ov : List ℕ} {y : ℕ} → Part p sa sc x from val₀ ov₀ val ov y → y ≡ to → FlaggedFor p sa sc val ov (x + 1)
   slow-done {val} {ov} {y} pt e =
-      sheet-next (s .turn .ready .slopes) (s .turn .ready .offs) (s .turn .table .cells) (s .turn .start) (s .turn .end) from to (s .fr) (s .up) (s .turn .table .blank) (s .lt) (cellAt val ov)
+      sheet-next (s .turn .ready .slopes) (s .turn .ready .offs) (s .turn .table .cells) (s .turn .start) (s .turn .end) from to (s .fr) (s .up) (s .turn .table .blank) (cellAt val ov)
       (pt .before) (λ j l. pt .after j (omega arith)) (λ t h l. pt .here t h (omega arith))
 
 -- total
@@ -193,9 +194,6 @@ module _ {k f : ℕ} {sa sc : List ℕ} {hi m ex ey : ℕ} (val : List ℕ) {x :
     blank = λ j l. unflagged j ∙ ap capOf (r .blank j l);
   }
 
-  pub resume-cells : Cells capOf (cellAt val (replicate 3712 0)) k f sa sc hi m ex ey x
-  resume-cells = resume .cells
-
 pub last-row : (ex s : ℕ) → (ex + 1) * s + s ≡ (ex + 2) * s
 last-row ex s = let e : ex + 1 + 1 ≡ ex + 2 = omega arith in sym (one-more s (ex + 1)) ∙ ap (λ (z : ℕ). z * s) e
 
@@ -210,7 +208,7 @@ module _ {p : Plan} {sa sc : List ℕ} {val : List ℕ} {x : ℕ} (g : Got p sa 
   pub got-filled : ((j : ℕ) → getD val j 0 < 2 ^ 64) → {v at : ℕ} → v ≡ getD val at 0 → at ≡ place (p .m) (p .ey) (p .ex) (p .ey) → Filled p sa sc val (Count v)
   got-filled fits {v} {at} ev ep = record {
     answer = sym (cap-lt v (omega (arith, fits at))) ∙ ap capOf (ev ∙ ap (λ (j : ℕ). getD val j 0) ep ∙ g .table .cells .right (p .ex) (p .ey) (omega arith) (omega arith, omega arith));
-    solid = λ n. record { ov = replicate 3712 0; flags = rw e at (resume-cells val (g .table) fits) };
+    solid = λ n. record { ov = replicate 3712 0; flags = rw e at (resume val (g .table) fits .cells) };
   }
 
 -- what the answer for the end says of the table

@@ -14,7 +14,7 @@ use Rattle.tables.specs.declared.Plan.{Plan}
 use Rattle.tables.specs.Table.{Offsets}
 use Rattle.tables.specs.Plans.{strideFor, cellsFor, SizesFor, Planned, PreparedFor}
 use Rattle.tables.specs.Filling.{Begun}
-use Rattle.tables.proofs.Prepare.{prepared}
+use Rattle.tables.proofs.Prepare.{ready-more, prepared}
 
 module _ {sa sc : List ℕ} {p : Plan} (pl : Planned sa sc p) where
   pub stride-le : strideFor p ≤ 2001
@@ -32,7 +32,4 @@ module _ {sa sc : List ℕ} {p : Plan} (pl : Planned sa sc p) where
     prepared-last = prepared-for refl 3712 (sizes-for .cells)
 
 pub begun-at : {p : Plan} {sa sc off : List ℕ} {n : ℕ} → PreparedFor p sa sc off n → (size : ℕ) → n ≤ size → Begun p sa sc off (replicate size 0)
-begun-at {p} {sa} {sc} {off} {n} r size l = record { ready = more (length (replicate size 0)) (omega (arith, length-replicate {A = ℕ} size 0)); zero-at = zeros-at size }
-  where
-    more : (size : ℕ) → n ≤ size → PreparedFor p sa sc off size
-    more size l = record { sizes = r .sizes; slopes = r .slopes; offs = r .offs; fewer = r .fewer; room = omega (arith, r .room) }
+begun-at r size l = record { ready = ready-more r (length (replicate size 0)) (omega (arith, length-replicate {A = ℕ} size 0)); zero-at = zeros-at size }

@@ -1,14 +1,14 @@
 -- What is found out of a form. Assumes nothing.
 --
---   slope-by                                    a slope where a is known
 --   steepest-none, steepest-more, steepest-at   the steepest step, in the loop of `plan_of`
 --   deepest-none, deepest-more, deepest-at      the deepest step, in the same loop
 --   offset-more                                 the loop of `offsets`
 --   few-not, few-yes                            `is_few`
+--   ready-more                                  ready for a larger table
 --   form-pos, form-near, form-far, form-low     all eight steps of a form, those that aren't there too
 --   far-times                                   an offset fits
 --   cells-le, prepared                          the table's size, and all that `fill` asks
-use mathlib.Core.Path.{_≡_, _∙_}
+use mathlib.Core.Path.{_≡_}
 use mathlib.Core.Bool.{Bool, true, false}
 use mathlib.Core.List.{List}
 use Prim.Native.Nat.{ℕ, _+_, _*_, _≤_, _<_}
@@ -17,15 +17,12 @@ use native.Mathlib.Decide.{decLt}
 use native.Mathlib.Nat.{not-suc-le-zero, mul-le-mul-right, mul-le-mul-left, le-trans}
 use borrow.Author.Count.{below-more}
 use lib.ListN.{length, getD, set}
-use lib.Seq.{getD-set-same, getD-set-other}
 use Rattle.howmany.proofs.Cases.{eight}
 use Rattle.tables.specs.Form.{Form}
 use Rattle.tables.specs.Cells.{strideOf}
 use Rattle.tables.specs.Table.{Steepest, Deepest, Few, Offsets, Prepared}
+use Rattle.tables.proofs.Walls.{set-more}
 use Rattle.tables.proofs.Laws.{mul-bound}
-
-pub slope-by : (a b c r : ℕ) → a ≡ b → 6 * c ≤ r * b → 6 * c ≤ r * a
-slope-by a b c r e h = rw e h
 
 pub steepest-none : (sa sc : List ℕ) (ex : ℕ) → Steepest sa sc ex 0 0
 steepest-none sa sc ex = record { le = omega arith; all = λ i l. absurd (not-suc-le-zero l) }
@@ -53,8 +50,11 @@ deepest-at s e = rw e at s
 
 pub offset-more : (sa sc off : List ℕ) (stride i v : ℕ) → ((j : ℕ) → j < i → getD off j 0 ≡ getD sa j 0 * stride + getD sc j 0) → i < length off → v ≡ getD sa i 0 * stride + getD sc i 0
     → (j : ℕ) → j < i + 1 → getD (set off i v) j 0 ≡ getD sa j 0 * stride + getD sc j 0
-offset-more sa sc off stride i v all l e =
-    below-more (λ j. getD (set off i v) j 0 ≡ getD sa j 0 * stride + getD sc j 0) i (λ j h. getD-set-other off i j v 0 (λ q. omega arith) ∙ all j h) (getD-set-same off i v 0 l ∙ e)
+offset-more sa sc off stride i v all l e = set-more off i v (λ j o. o ≡ getD sa j 0 * stride + getD sc j 0) l all e
+
+-- ready for a table is ready for a larger one
+pub ready-more : {few : Bool} {k f : ℕ} {sa sc off : List ℕ} {hi m ex ey size : ℕ} → Prepared few k f sa sc off hi m ex ey size → (larger : ℕ) → size ≤ larger → Prepared few k f sa sc off hi m ex ey larger
+ready-more r larger l = record { sizes = r .sizes; slopes = r .slopes; offs = r .offs; fewer = r .fewer; room = omega (arith, r .room) }
 
 pub few-not : (sa : List ℕ) (ex : ℕ) → Few false sa ex
 few-not sa ex = record { gone = λ e i p q. let z : _≡_ {A = ℕ} 0 1 = cc in absurd (omega arith) }

@@ -3,46 +3,50 @@
 --   laid-start, laid-more                  the steps, one more at a time
 --   laid-below, laid-above, laid-worked    what the state of the own shape says
 --   laid-gentle                            that shape is one that can be lowered
---   directed-shaped                        the lowered shape
+--   beyond-shaped                          the shape of a job of the grid whose end no step leads to
+--   small, directed-shaped                 the job is in range; the lowered shape
+--   sound-ranged, shaped-by                the same by what a held job stands for
 use mathlib.Core.Path.{_≡_, refl, sym, ap, _∙_, subst}
 use mathlib.Core.Bool.{Bool, true, false}
-use mathlib.Core.List.{List, map, reverse}
+use mathlib.Core.List.{List}
 use Prim.Native.Nat.{ℕ, suc, _+_, _*_, _-_, _≤_, _<_}
-use native.Mathlib.Decide.{decLt, ℕ-discrete}
+use native.Mathlib.Decide.{decLt}
 use native.Mathlib.Nat.{not-suc-le-zero}
 use native.Mathlib.Omega.{arith}
-use lib.Dec.{T, ltb, leb, le→leb}
+use lib.Dec.{T, leb, le→leb}
 use lib.IntN.{ℤ, pos, negsuc}
 use lib.ListN.{getD, set, replicate, length-set}
-use lib.Seq.{getD-set-same, getD-set-other}
+use lib.Seq.{getD-set-other}
 use borrow.Author.Tests.{lt-ltb, le-ltb}
 use Rattle.howmany.specs.Choose.{pick, bit}
 use Rattle.howmany.proofs.Cases.{eight}
-use Rattle.backward.specs.Walk.{enter}
-use Rattle.backward.specs.Grid.{Spot, grid, way, paths}
+use Rattle.backward.specs.Grid.{Spot, grid, paths}
 use Rattle.backward.specs.Shears.{Slid}
-use Rattle.backward.proofs.Carried.{Barren, barren-count}
+use Rattle.backward.proofs.Carried.{barren-count}
 use Rattle.rules.specs.Points.{leℤ}
 use Rattle.rules.specs.Jobs as rules
-use Rattle.rules.specs.Jobs.{Pair, stepsOf, endOf, pairAt}
-use Rattle.rules.specs.Jobs.Job.{north-east, dyck, delannoy, schroder, motzkin, directed}
-use Rattle.rules.specs.Valid.{place, Valid}
+use Rattle.rules.specs.Jobs.{Pair, pairAt}
+use Rattle.rules.specs.Jobs.Job.{directed}
+use Rattle.rules.specs.Valid.{Valid}
+use Rattle.rules.specs.Words.{wordOf}
 use Rattle.rules.specs.Counts.{countOf}
-use Rattle.rules.specs.Shear.{Is, lift, gridOf, Slope}
+use Rattle.rules.proofs.Shear.{Is, lift, gridOf, Slope}
 use Rattle.rules.proofs.Signed.{is-shift, is-up, is-lift, is-apart}
-use Rattle.rules.proofs.Sheared.{some-end, walks-word}
-use Rattle.rules.specs.Ranges.{Small}
-use Rattle.rules.proofs.Slopes.{W-none, slope-shear, slope-counted}
+use Rattle.rules.proofs.Sheared.{some-end}
+use Rattle.rules.proofs.Ranges.{Small}
+use Rattle.rules.proofs.Slopes.{W-none, slope-shear}
 use Rattle.job.specs.declared.Job.{Job}
+use Rattle.job.proofs.Puts.{zeros-at}
 use Rattle.job.specs.Stands.{Directed, Stands}
 use Rattle.job.specs.Stands.Stands.{as-north-east, as-dyck, as-delannoy, as-schroder, as-motzkin, as-open, as-fenced}
 use Rattle.tables.specs.Form.{roof, wall}
-use Rattle.tables.specs.Shapes.{Grids, Sound, Sits, stepsAt, endAt, Shaped, ShapedFor, Ranged, Laying, Laid, Gentle, Beyond, Lowered, Chosen}
+use Rattle.tables.specs.Shapes.{Sound, Sits, stepsAt, endAt, Shaped, ShapedFor, Ranged, Laying, Laid, Gentle, Beyond, Lowered, Chosen}
 use Rattle.tables.specs.Shapes.Lowered.{reached, unreached}
 use Rattle.tables.specs.Shapes.Chosen.{sunk, lowered}
 use Rattle.tables.specs.Shapes.Shaped.{worked, nothing}
 use Rattle.tables.specs.declared.Shape.{Shape}
-use Rattle.tables.proofs.Walls.{fence-is}
+use Rattle.tables.proofs.Walls.{set-more, fence-is}
+use Rattle.tables.proofs.Gridded.{entered, Gridded, directed-gridded}
 use Rattle.tables.proofs.Lowering.{shows-same, beyond-same, beyond-barren}
 
 -- ---- the steps
@@ -54,7 +58,7 @@ laid-start a b = record {
   right = λ j l. absurd (not-suc-le-zero l);
   up = λ j l. absurd (not-suc-le-zero l);
   away = λ j l. eight (λ i. _≡_ {A = ℕ} (getD (replicate 8 100) i 0) 100) refl refl refl refl refl refl refl refl j;
-  flat = λ j l. eight (λ i. _≡_ {A = ℕ} (getD (replicate 8 0) i 0) 0) refl refl refl refl refl refl refl refl j;
+  flat = λ j l h. zeros-at 8 j;
 }
 
 module _ (a b sa sc : List ℕ) (i x y : ℕ) (w : Laying a b sa sc i) (l : i < 8) (ex : x ≡ getD a i 0) (ey : y ≡ getD b i 0 + 3 * getD a i 0 - 128) where
@@ -62,45 +66,28 @@ module _ (a b sa sc : List ℕ) (i x y : ℕ) (w : Laying a b sa sc i) (l : i < 
   laid-more = record {
     eight = length-set sa i x ∙ w .eight;
     eight-too = length-set sc i y ∙ w .eight-too;
-    right = λ j h. at-right j h (ℕ-discrete j i);
-    up = λ j h. at-up j h (ℕ-discrete j i);
+    right = set-more sa i x (λ j v. v ≡ getD a j 0) (omega (arith, w .eight)) (w .right) ex;
+    up = set-more sc i y (λ j v. v ≡ getD b j 0 + 3 * getD a j 0 - 128) (omega (arith, w .eight-too)) (w .up) ey;
     away = λ j h k. getD-set-other sa i j x 0 (λ e. omega arith) ∙ w .away j (omega arith) k;
     flat = λ j h k. getD-set-other sc i j y 0 (λ e. omega arith) ∙ w .flat j (omega arith) k;
   }
-    where
-      at-right : (j : ℕ) → j < i + 1 → Dec (j ≡ i) → getD (set sa i x) j 0 ≡ getD a j 0
-      at-right j h (yes e) = rw e (getD-set-same sa i x 0 (omega (arith, w .eight)) ∙ ex)
-      at-right j h (no f) = getD-set-other sa i j x 0 f ∙ w .right j (omega arith)
-
-      at-up : (j : ℕ) → j < i + 1 → Dec (j ≡ i) → getD (set sc i y) j 0 ≡ getD b j 0 + 3 * getD a j 0 - 128
-      at-up j h (yes e) = rw e (getD-set-same sc i y 0 (omega (arith, w .eight-too)) ∙ ey)
-      at-up j h (no f) = getD-set-other sc i j y 0 f ∙ w .up j (omega arith)
 
 module _ (j : Job) (f : ℕ) (s : Shape) (w : Laid j f s) where
   -- the state says whether the end is below 0
-  laid-state : (b : Bool) → ltb (j .m + 3 * j .n) 128 ≡ b → s .state ≡ bit b
-  laid-state b e = w .state-is ∙ ap bit e
+  state-below : j .m + 3 * j .n < 128 → s .state ≡ 1
+  state-below l = w .state-is ∙ ap bit (lt-ltb (j .m + 3 * j .n) 128 l)
 
-  pub laid-below : s .state ≡ 1 → j .m + 3 * j .n < 128
-  laid-below q = go (decLt (j .m + 3 * j .n) 128)
-    where
-      go : Dec (j .m + 3 * j .n < 128) → j .m + 3 * j .n < 128
-      go (yes l) = l
-      go (no l) = absurd (omega (arith, laid-state false (le-ltb (j .m + 3 * j .n) 128 (omega arith))))
+  state-above : 128 ≤ j .m + 3 * j .n → s .state ≡ 0
+  state-above l = w .state-is ∙ ap bit (le-ltb (j .m + 3 * j .n) 128 l)
 
-  pub laid-above : s .state ≡ 0 → 128 ≤ j .m + 3 * j .n
-  laid-above q = go (decLt (j .m + 3 * j .n) 128)
-    where
-      go : Dec (j .m + 3 * j .n < 128) → 128 ≤ j .m + 3 * j .n
-      go (yes l) = absurd (omega (arith, laid-state true (lt-ltb (j .m + 3 * j .n) 128 l)))
-      go (no l) = omega arith
+  laid-below : s .state ≡ 1 → j .m + 3 * j .n < 128
+  laid-below q = elim (decLt (j .m + 3 * j .n) 128) [ yes l ↦ l | no l ↦ absurd (omega (arith, state-above (omega arith))) ]
+
+  laid-above : s .state ≡ 0 → 128 ≤ j .m + 3 * j .n
+  laid-above q = elim (decLt (j .m + 3 * j .n) 128) [ yes l ↦ absurd (omega (arith, state-below l)) | no l ↦ omega arith ]
 
   pub laid-worked : (s .state ≡ 1 → ⊥) → s .state ≡ 0
-  laid-worked q = go (ltb (j .m + 3 * j .n) 128) refl
-    where
-      go : (b : Bool) → ltb (j .m + 3 * j .n) 128 ≡ b → s .state ≡ 0
-      go true e = absurd (q (laid-state true e))
-      go false e = laid-state false e
+  laid-worked q = elim (decLt (j .m + 3 * j .n) 128) [ yes l ↦ absurd (q (state-below l)) | no l ↦ state-above (omega arith) ]
 
   module _ (g : Ranged j) (l : f ≤ 3) where
     pub laid-gentle : s .state ≡ 0 → Gentle s
@@ -120,6 +107,13 @@ module _ (j : Job) (f : ℕ) (s : Shape) (w : Laid j f s) where
         most = λ i h. let n : i < j .k = omega (arith, w .k-is) in omega (arith, w .steps .right i n, w .steps .up i n, g .b-most i n);
       };
     }
+
+-- nothing leads to an end that no step leads to
+beyond-shaped : {J : rules.Job} {q : Spot} → Gridded J q → (r : Shape) → r .state ≡ 1 → Beyond (gridOf J) q → Shaped J r
+unfolding Valid paths
+beyond-shaped {J} {q} g r e o =
+    let b = beyond-barren (gridOf J) q o in
+    nothing e (g .counts ∙ barren-count (grid (gridOf J)) (entered (gridOf J) q) b) (λ z v. b (wordOf J z) (subst T (g .walks z) v))
 
 slope-below : (fenced : Bool) → pick fenced 3 0 < roof
 slope-below true = omega arith
@@ -156,16 +150,6 @@ module _ (j : Job) (fenced : Bool) (m : ℤ) (pairs : List Pair) (d : Directed j
       let h : Is m 0 (3 * j .n + suc t) = below t (omega arith) in
       nothing e (W-none fenced 0 pairs small (j .n) t m h) (no-edge t h)
 
-  -- nothing leads to an end that no step leads to
-  beyond-shaped : (r : Shape) (q : Spot) → r .state ≡ 1 → Sits J q → Beyond (gridOf J) q → Shaped J r
-  unfolding countOf Valid paths
-  beyond-shaped r q e s o =
-      let H = slope-shear fenced 0 pairs small in
-      let K = slope-counted fenced 0 pairs small in
-      let b : Barren (grid (gridOf J)) (enter (grid (gridOf J)) (way (gridOf J)) q) = beyond-barren (gridOf J) q o in
-      nothing e (K .agrees (endOf J) q s ∙ barren-count (grid (gridOf J)) (enter (grid (gridOf J)) (way (gridOf J)) q) b)
-      (λ z v. b (reverse (map (λ x. place x (stepsOf J)) z)) (subst T (walks-word J (gridOf J) (Slope 0) H q s z) v))
-
   module _ (s : Shape) (f : ℕ) (e : f ≡ pick fenced 3 0) (w : Laid j f s) where
     lifted : (i : ℕ) → i < j .k → getD (j .b) i 0 + 3 * getD (j .a) i 0 - 128 ≡ gridOf J .c i
     lifted i l =
@@ -194,7 +178,8 @@ module _ (j : Job) (fenced : Bool) (m : ℤ) (pairs : List Pair) (d : Directed j
     lowered-shaped : (r : Shape) → s .state ≡ 0 → Lowered s r → Shaped J r
     lowered-shaped r q (reached z form v) =
         worked z refl form (record { end = endAt s; sits = sits (laid-above j f s w q); shows = shows-same (gridOf J) (stepsAt s) own (endAt s) r v })
-    lowered-shaped r q (unreached z o) = beyond-shaped r (endAt s) z (sits (laid-above j f s w q)) (beyond-same (gridOf J) (stepsAt s) own (endAt s) o)
+    lowered-shaped r q (unreached z o) =
+        beyond-shaped (directed-gridded fenced (j .n) m 0 pairs small (endAt s) (sits (laid-above j f s w q))) r z (beyond-same (gridOf J) (stepsAt s) own (endAt s) o)
 
   pub directed-shaped : (r : Shape) (f : ℕ) → f ≡ pick fenced 3 0 → Chosen j f r → Shaped J r
   directed-shaped r f e (sunk w q) = sunk-shaped r q (laid-below j f r w q)
@@ -215,32 +200,23 @@ ranged d = record {
 }
 
 pub sound-ranged : (j : Job) → Sound j → 6 ≤ j .family → Ranged j
-sound-ranged j s l = go (s .job) (s .stands) (s .grids)
+sound-ranged j s l = go (s .stands)
   where
-    go : (K : rules.Job) → Stands j K → Grids K → Ranged j
-    go (north-east n m) (as-north-east e v) g = absurd (omega arith)
-    go (dyck n) x g = absurd g
-    go (delannoy n m) (as-delannoy e v) g = absurd (omega arith)
-    go (schroder n) x g = absurd g
-    go (motzkin n) x g = absurd g
-    go (directed f n m z p) (as-open e d) g = ranged d
-    go (directed f n m z p) (as-fenced e d) g = ranged d
+    go : {K : rules.Job} → Stands j K → Ranged j
+    go (as-north-east e v) = absurd (omega arith)
+    go (as-dyck e v) = absurd (omega arith)
+    go (as-delannoy e v) = absurd (omega arith)
+    go (as-schroder e v) = absurd (omega arith)
+    go (as-motzkin e v) = absurd (omega arith)
+    go (as-open e d) = ranged d
+    go (as-fenced e d) = ranged d
 
-module _ (j : Job) (s : Shape) (l : 6 ≤ j .family) where
-  pub shaped-6 : j .family ≡ 6 → Chosen j 0 s → ShapedFor j s
-  shaped-6 h w (north-east n m) (as-north-east e v) = absurd (omega arith)
-  shaped-6 h w (dyck n) (as-dyck e v) = absurd (omega arith)
-  shaped-6 h w (delannoy n m) (as-delannoy e v) = absurd (omega arith)
-  shaped-6 h w (schroder n) (as-schroder e v) = absurd (omega arith)
-  shaped-6 h w (motzkin n) (as-motzkin e v) = absurd (omega arith)
-  shaped-6 h w (directed f n m z p) (as-open e d) = directed-shaped j false m p d s 0 refl w
-  shaped-6 h w (directed f n m z p) (as-fenced e v) = absurd (omega arith)
-
-  pub shaped-7 : (j .family ≡ 6 → ⊥) → Chosen j 3 s → ShapedFor j s
-  shaped-7 h w (north-east n m) (as-north-east e v) = absurd (omega arith)
-  shaped-7 h w (dyck n) (as-dyck e v) = absurd (omega arith)
-  shaped-7 h w (delannoy n m) (as-delannoy e v) = absurd (omega arith)
-  shaped-7 h w (schroder n) (as-schroder e v) = absurd (omega arith)
-  shaped-7 h w (motzkin n) (as-motzkin e v) = absurd (omega arith)
-  shaped-7 h w (directed f n m z p) (as-open e v) = absurd (h e)
-  shaped-7 h w (directed f n m z p) (as-fenced e d) = directed-shaped j true m p d s 3 refl w
+-- f is the slope of the job's fence, 0 for none
+pub shaped-by : (j : Job) (s : Shape) (f : ℕ) → 6 ≤ j .family → (j .family ≡ 6 → f ≡ 0) → (j .family ≡ 7 → f ≡ 3) → Chosen j f s → ShapedFor j s
+shaped-by j s f l free fence w _ (as-north-east e v) = absurd (omega arith)
+shaped-by j s f l free fence w _ (as-dyck e v) = absurd (omega arith)
+shaped-by j s f l free fence w _ (as-delannoy e v) = absurd (omega arith)
+shaped-by j s f l free fence w _ (as-schroder e v) = absurd (omega arith)
+shaped-by j s f l free fence w _ (as-motzkin e v) = absurd (omega arith)
+shaped-by j s f l free fence w _ (as-open {m} {pairs} e d) = directed-shaped j false m pairs d s f (free e) w
+shaped-by j s f l free fence w _ (as-fenced {m} {pairs} e d) = directed-shaped j true m pairs d s f (fence e) w

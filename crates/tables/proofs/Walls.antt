@@ -1,6 +1,7 @@
 -- Laws of walls: fences and roofs, and how they are seen from another slope. Assumes nothing.
 --
 --   tested                   a test holds or doesn't
+--   set-more                 what holds of the first i numbers of a list, and of the one put at i, holds of the first i + 1
 --   fence-is, roof-is        what a wall asks
 --   wall-none, wall-level    no wall lets a walk be anywhere
 --   wall-between             a wall lets a walk be above a fence, or below a roof
@@ -32,6 +33,10 @@ use Rattle.tables.specs.Table.{Fence, From, Roof, To, Spans}
 pub tested : (b : Bool) → Dec (T b)
 tested true = yes tt
 tested false = no (λ t. t)
+
+pub set-more : (l : List ℕ) (i v : ℕ) (P : ℕ → ℕ → Type 0) → i < length l → ((j : ℕ) → j < i → P j (getD l j 0)) → P i v → (j : ℕ) → j < i + 1 → P j (getD (set l i v) j 0)
+set-more l i v P h all here =
+    below-more (λ j. P j (getD (set l i v) j 0)) i (λ j k. rw (getD-set-other l i j v 0 (λ q. omega arith)) (all j k)) (rw (getD-set-same l i v 0 h) here)
 
 pub fence-is : (f x y : ℕ) → f < roof → wall f x y ≡ leb (f * x) y
 unfolding wall
@@ -151,8 +156,8 @@ module _ {f hi ex ey : ℕ} {starts stops : List ℕ} where
   pub spans-more : {n from to : ℕ} → Spans f hi ex ey starts stops n → n < length starts → n < length stops → From f hi ex ey n from → To f hi ey n to → Spans f hi ex ey (set starts n from) (set stops n to) (n + 1)
   spans-more {n} {from} {to} s l m fr up = record {
     narrow = s .narrow;
-    low = λ x p h. below-more (λ j. 1 ≤ j → From f hi ex ey j (getD (set starts n from) j 0)) n (λ j h p. rw (getD-set-other starts n j from 0 (λ q. omega arith)) (s .low j p h)) (λ p. rw (getD-set-same starts n from 0 l) fr) x h p;
-    high = λ x p h. below-more (λ j. 1 ≤ j → To f hi ey j (getD (set stops n to) j 0)) n (λ j h p. rw (getD-set-other stops n j to 0 (λ q. omega arith)) (s .high j p h)) (λ p. rw (getD-set-same stops n to 0 m) up) x h p;
+    low = λ x p h. set-more starts n from (λ j v. 1 ≤ j → From f hi ex ey j v) l (λ j h p. s .low j p h) (λ p. fr) x h p;
+    high = λ x p h. set-more stops n to (λ j v. 1 ≤ j → To f hi ey j v) m (λ j h p. s .high j p h) (λ p. up) x h p;
   }
 
   pub spans-all : {n : ℕ} → Spans f hi ex ey starts stops n → n ≡ ex + 1 → Spans f hi ex ey starts stops (ex + 1)

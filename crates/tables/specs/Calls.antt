@@ -9,7 +9,7 @@ use Prim.Native.Nat.{ℕ}
 use Rattle.rules.specs.Jobs as rules
 use Rattle.rules.specs.Refusals.Answer.{accepted}
 use Rattle.rules.specs.Blocks.{jobAnswer}
-use Rattle.rules.specs.Ranges.{InRange}
+use Rattle.rules.proofs.Ranges.{InRange}
 use Rattle.job.specs.declared.Counted.{Counted}
 use Rattle.job.specs.declared.Counted.the-variants.{Count as Counts, Refused}
 use Rattle.job.specs.declared.Built.{Built}

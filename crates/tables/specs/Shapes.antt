@@ -31,7 +31,7 @@ use Rattle.rules.specs.Jobs.{endOf}
 use Rattle.rules.specs.Jobs.Job.{north-east, dyck, delannoy, schroder, motzkin, directed}
 use Rattle.rules.specs.Valid.{Valid}
 use Rattle.rules.specs.Counts.{countOf}
-use Rattle.rules.specs.Shear.{gridOf, Plain, Slope}
+use Rattle.rules.proofs.Shear.{gridOf, Plain, Slope}
 use Rattle.job.specs.declared.Job.{Job}
 use Rattle.job.specs.Stands.{Stands}
 use Rattle.tables.specs.Form.{Form, stepsIn, spot}

@@ -22,7 +22,7 @@ use Rattle.rules.specs.Jobs as rules
 use Rattle.rules.specs.Jobs.{Pair, N, E, D, one, step, numbered, stepsOf, startOf, endOf, stays, isDirected}
 use Rattle.rules.specs.Jobs.Job.{directed}
 use Rattle.rules.specs.Valid.{place, at}
-use Rattle.rules.specs.Shear.{Is}
+use Rattle.rules.proofs.Shear.{Is}
 use Rattle.walks.proofs.Spots.{and-true}
 use Rattle.rules.proofs.Slopes.{numbered-length, digit-at, digit-place}
 use Rattle.job.specs.declared.Job.{Job}

@@ -22,7 +22,7 @@ use Rattle.rules.specs.Points.{Point, Step, origin, same, moved, leℤ, eqℤ}
 use Rattle.rules.specs.Jobs.{Job, stepsOf, startOf, endOf, stays, isDirected}
 use Rattle.rules.specs.Valid.{place, at}
 use Rattle.rules.specs.Places.{stepOf, isStep, low, inside, keeps}
-use Rattle.rules.specs.Shear.{Is}
+use Rattle.rules.proofs.Shear.{Is}
 use Rattle.rules.proofs.Letters.{point-eq}
 use Rattle.rules.proofs.Signed.{is-sub, is-shift, is-plus, is-one, is-fence}
 use Rattle.walks.specs.declared.paces.Paces.{Paces}

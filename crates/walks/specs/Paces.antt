@@ -23,7 +23,7 @@ use Rattle.rules.specs.Jobs.{stepsOf, startOf, endOf, stays, isDirected}
 use Rattle.rules.specs.Valid.{place, at}
 use Rattle.rules.specs.Places.{placeOf}
 use Rattle.rules.specs.Blocks.{paired}
-use Rattle.rules.specs.Shear.{Is}
+use Rattle.rules.proofs.Shear.{Is}
 use Rattle.letters.specs.Letters as letters
 use Rattle.job.specs.declared.Job.{Job}
 use Rattle.walks.specs.declared.paces.Paces.{Paces}

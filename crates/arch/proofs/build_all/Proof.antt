@@ -1,7 +1,9 @@
 -- `arch::build_all` meets its contract: by what is known of the block, and what is written with the family's counts. Assumes nothing.
 use mathlib.Core.Path.{_≡_, sym, _∙_, subst}
 use mathlib.Core.Bool.{true}
+use lib.ListN.{length}
 use borrow.Author.Needs.{needs}
+use Rattle.lines.specs.Lines.{Room}
 use Rattle.lines.proofs.Lining.{room-of}
 use Rattle.lines.proofs.Mines.{other-lines}
 use Rattle.lines.proofs.Knowing.{lines-no-room, lines-refusing, lines-ending}
@@ -14,6 +16,12 @@ use Rattle.arch.proofs.build_all.Tie as tie
 -- what is known of the block, by the arm
 knows : (c : tie.After-known-of) {r : Known} → c .known-of .result ≡ r → KnownIs (c .before .before .before .before .before .before .args .block .now) (c .before .has-room .result) r
 knows c e = subst (KnownIs _ _) e (c .known-of .ensures)
+
+-- there is room, in the arm of a family
+room : (c : tie.After-known-of) → c .before .has-room .result ≡ true →
+    let args = c .before .before .before .before .before .before .args in
+    Room (length (args .numbers .now)) (length (args .steps .now)) (length (args .ends .now))
+room c e = room-of _ _ _ (sym (c .before .has-room .ensures) ∙ e)
 
 has-room-requires : tie.Need-has-room-requires
 has-room-requires c κs = search needs
@@ -39,7 +47,7 @@ dyck-counts-requires c κs = knows (c .before .before .before) (c .before .n .gi
 write-edges-requires : tie.Need-write-edges-requires
 write-edges-requires c κs =
     let known = knows (c .before .before .before .before .before .before .before) (c .before .before .before .before .before .n .given .1) in
-    (c .before .before .before .dyck-counts .ensures, room-of _ _ _ (sym (c .before .before .before .before .before .before .before .before .has-room .ensures) ∙ known .ends .roomy))
+    (c .before .before .before .dyck-counts .ensures, room (c .before .before .before .before .before .before .before) (known .ends .roomy))
 
 enum-known-n-2 : tie.Need-enum-known-n-2
 enum-known-n-2 c = search needs
@@ -50,7 +58,7 @@ schroder-counts-requires c κs = search needs
 write-edges-requires-2 : tie.Need-write-edges-requires-2
 write-edges-requires-2 c κs =
     let known = knows (c .before .before .before .before .before .before .before) (c .before .before .before .before .before .n2 .given .1) in
-    (table-less true 0 28 _ _ (known .small) (c .before .before .before .schroder-counts .ensures), room-of _ _ _ (sym (c .before .before .before .before .before .before .before .before .has-room .ensures) ∙ known .ends .roomy))
+    (table-less true 0 28 _ _ (known .small) (c .before .before .before .schroder-counts .ensures), room (c .before .before .before .before .before .before .before) (known .ends .roomy))
 
 enum-known-n-3 : tie.Need-enum-known-n-3
 enum-known-n-3 c = search needs
@@ -61,7 +69,7 @@ motzkin-counts-requires c κs = search needs
 write-edges-requires-3 : tie.Need-write-edges-requires-3
 write-edges-requires-3 c κs =
     let known = knows (c .before .before .before .before .before .before .before) (c .before .before .before .before .before .n3 .given .1) in
-    (table-less true 1 45 _ _ (known .small) (c .before .before .before .motzkin-counts .ensures), room-of _ _ _ (sym (c .before .before .before .before .before .before .before .before .has-room .ensures) ∙ known .ends .roomy))
+    (table-less true 1 45 _ _ (known .small) (c .before .before .before .motzkin-counts .ensures), room (c .before .before .before .before .before .before .before) (known .ends .roomy))
 
 returns : tie.Need-returns
 returns c = other-lines (knows (c .before .before) (c .enum-told .given .1)) _ _ _
@@ -80,8 +88,8 @@ same-length-2 c = search needs
 
 returns-4 : tie.Need-returns-4
 returns-4 c =
-    let known = knows (c .before .before .before .before .before .before .before .before .before .before .before .before) (c .before .before .before .before .before .before .before .before .before .before .n .given .1) in
-    lines-ending _ _ _ _ (c .before .before .before .before .before .before .before .before .before .before .before .before .before .has-room .ensures) _ _ _ (known .ends) (c .before .before .before .before .write-edges .ensures)
+    let at = c .before .before .before .before .before .before .before .before .before .before .before .before in
+    lines-ending _ _ _ _ (at .before .has-room .ensures) _ _ _ (knows at (c .before .before .before .before .before .before .before .before .before .before .n .given .1) .ends) (c .before .before .before .before .write-edges .ensures)
 
 same-length-3 : tie.Need-same-length-3
 same-length-3 c = search needs
@@ -91,8 +99,8 @@ same-length-4 c = search needs
 
 returns-5 : tie.Need-returns-5
 returns-5 c =
-    let known = knows (c .before .before .before .before .before .before .before .before .before .before .before .before) (c .before .before .before .before .before .before .before .before .before .before .n2 .given .1) in
-    lines-ending _ _ _ _ (c .before .before .before .before .before .before .before .before .before .before .before .before .before .has-room .ensures) _ _ _ (known .ends) (c .before .before .before .before .write-edges2 .ensures)
+    let at = c .before .before .before .before .before .before .before .before .before .before .before .before in
+    lines-ending _ _ _ _ (at .before .has-room .ensures) _ _ _ (knows at (c .before .before .before .before .before .before .before .before .before .before .n2 .given .1) .ends) (c .before .before .before .before .write-edges2 .ensures)
 
 same-length-5 : tie.Need-same-length-5
 same-length-5 c = search needs
@@ -102,36 +110,12 @@ same-length-6 c = search needs
 
 returns-6 : tie.Need-returns-6
 returns-6 c =
-    let known = knows (c .before .before .before .before .before .before .before .before .before .before .before .before) (c .before .before .before .before .before .before .before .before .before .before .n3 .given .1) in
-    lines-ending _ _ _ _ (c .before .before .before .before .before .before .before .before .before .before .before .before .before .has-room .ensures) _ _ _ (known .ends) (c .before .before .before .before .write-edges3 .ensures)
+    let at = c .before .before .before .before .before .before .before .before .before .before .before .before in
+    lines-ending _ _ _ _ (at .before .has-room .ensures) _ _ _ (knows at (c .before .before .before .before .before .before .before .before .before .before .n3 .given .1) .ends) (c .before .before .before .before .write-edges3 .ensures)
 
 pub build-all-spec : {M : Type 1} → statement M
 build-all-spec =
-    tie.close
-    (tie.spec
-    has-room-requires
-    known-of-requires
-    enum-told
-    enum-told-2
-    enum-known-r
-    enum-known-n
-    dyck-counts-requires
-    write-edges-requires
-    enum-known-n-2
-    schroder-counts-requires
-    write-edges-requires-2
-    enum-known-n-3
-    motzkin-counts-requires
-    write-edges-requires-3
-    returns
-    returns-2
-    returns-3
-    same-length
-    same-length-2
-    returns-4
-    same-length-3
-    same-length-4
-    returns-5
-    same-length-5
-    same-length-6
-    returns-6)
+    tie.close (tie.spec has-room-requires known-of-requires enum-told enum-told-2 enum-known-r enum-known-n dyck-counts-requires
+    write-edges-requires enum-known-n-2 schroder-counts-requires write-edges-requires-2 enum-known-n-3 motzkin-counts-requires
+    write-edges-requires-3 returns returns-2 returns-3 same-length same-length-2 returns-4 same-length-3 same-length-4 returns-5
+    same-length-5 same-length-6 returns-6)

@@ -87,25 +87,6 @@ returns-6 c =
 
 pub count-spec : {M : Type 1} → statement M
 count-spec =
-    tie.close
-    (tie.spec
-    known-of-requires
-    enum-told
-    enum-told-2
-    enum-known-r
-    enum-known-n
-    dyck-count-requires
-    enum-known-n-2
-    schroder-counts-requires
-    mul-t14
-    array-read-t17
-    enum-known-n-3
-    motzkin-counts-requires
-    mul-t20
-    array-read-t23
-    returns
-    returns-2
-    returns-3
-    returns-4
-    returns-5
-    returns-6)
+    tie.close (tie.spec known-of-requires enum-told enum-told-2 enum-known-r enum-known-n dyck-count-requires enum-known-n-2
+    schroder-counts-requires mul-t14 array-read-t17 enum-known-n-3 motzkin-counts-requires mul-t20 array-read-t23 returns returns-2
+    returns-3 returns-4 returns-5 returns-6)

@@ -36,9 +36,7 @@ dyck-counts-requires : tie.Need-dyck-counts-requires
 dyck-counts-requires c κs = knows (c .before .before .before) (c .before .n .given .1) .small
 
 number-each-requires : tie.Need-number-each-requires
-number-each-requires c κs =
-    let known = knows (c .before .before .before .before .before .before) (c .before .before .before .before .n .given .1) in
-    (c .before .before .dyck-counts .ensures, leb-true _ _ (known .ends .roomy))
+number-each-requires c κs = (c .before .before .dyck-counts .ensures, leb-true _ _ (knows (c .before .before .before .before .before .before) (c .before .before .before .before .n .given .1) .ends .roomy))
 
 enum-known-n-2 : tie.Need-enum-known-n-2
 enum-known-n-2 c = search needs
@@ -75,49 +73,22 @@ same-length : tie.Need-same-length
 same-length c = search needs
 
 returns-4 : tie.Need-returns-4
-returns-4 c =
-    let known = knows (c .before .before .before .before .before .before .before .before .before) (c .before .before .before .before .before .before .before .n .given .1) in
-    ranks-ending _ _ _ _ refl _ _ (known .ends) (c .before .before .number-each .ensures)
+returns-4 c = ranks-ending _ _ _ _ refl _ _ (knows (c .before .before .before .before .before .before .before .before .before) (c .before .before .before .before .before .before .before .n .given .1) .ends) (c .before .before .number-each .ensures)
 
 same-length-2 : tie.Need-same-length-2
 same-length-2 c = search needs
 
 returns-5 : tie.Need-returns-5
-returns-5 c =
-    let known = knows (c .before .before .before .before .before .before .before .before .before) (c .before .before .before .before .before .before .before .n2 .given .1) in
-    ranks-ending _ _ _ _ refl _ _ (known .ends) (c .before .before .number-each2 .ensures)
+returns-5 c = ranks-ending _ _ _ _ refl _ _ (knows (c .before .before .before .before .before .before .before .before .before) (c .before .before .before .before .before .before .before .n2 .given .1) .ends) (c .before .before .number-each2 .ensures)
 
 same-length-3 : tie.Need-same-length-3
 same-length-3 c = search needs
 
 returns-6 : tie.Need-returns-6
-returns-6 c =
-    let known = knows (c .before .before .before .before .before .before .before .before .before) (c .before .before .before .before .before .before .before .n3 .given .1) in
-    ranks-ending _ _ _ _ refl _ _ (known .ends) (c .before .before .number-each3 .ensures)
+returns-6 c = ranks-ending _ _ _ _ refl _ _ (knows (c .before .before .before .before .before .before .before .before .before) (c .before .before .before .before .before .before .before .n3 .given .1) .ends) (c .before .before .number-each3 .ensures)
 
 pub number-all-spec : {M : Type 1} → statement M
 number-all-spec =
-    tie.close
-    (tie.spec
-    known-of-requires
-    enum-told
-    enum-told-2
-    enum-known-r
-    enum-known-n
-    dyck-counts-requires
-    number-each-requires
-    enum-known-n-2
-    schroder-counts-requires
-    number-each-requires-2
-    enum-known-n-3
-    motzkin-counts-requires
-    number-each-requires-3
-    returns
-    returns-2
-    returns-3
-    same-length
-    returns-4
-    same-length-2
-    returns-5
-    same-length-3
-    returns-6)
+    tie.close (tie.spec known-of-requires enum-told enum-told-2 enum-known-r enum-known-n dyck-counts-requires number-each-requires
+    enum-known-n-2 schroder-counts-requires number-each-requires-2 enum-known-n-3 motzkin-counts-requires number-each-requires-3
+    returns returns-2 returns-3 same-length returns-4 same-length-2 returns-5 same-length-3 returns-6)

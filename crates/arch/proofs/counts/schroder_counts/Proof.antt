@@ -1,4 +1,4 @@
--- The constants are what the recurrence computes.
+-- `arch::counts::schroder_counts` meets its contract: the constants are what the recurrence computes. Assumes nothing.
 use Rattle.howmany.specs.Sum.{sum}
 use Rattle.arches.specs.Counts.{counts}
 use Rattle.arch.proofs.Constants.{turned, upwards, schroder-table}

@@ -1,14 +1,14 @@
--- The loop holds the products from i up to the middle; what the memo has is right before and after each call, and stays. The n of
--- each part is smaller, and a part that is not known is worked out at its own n.
+-- `count_memo` and `part_count` meet their contracts: the loop holds the products from i up to the middle; what the memo has is right before
+-- and after each call, and stays. The n of each part is smaller, and a part that is not known is worked out at its own n. Assumes nothing.
 use mathlib.Core.Path.{_≡_, refl}
-use native.Mathlib.Nat.{le-of-lt, le-trans}
+use native.Mathlib.Nat.{le-of-lt, le-trans, pos-of-ne-zero, sub-le, div-le-self}
 use native.Mathlib.Omega.{arith}
 use Rattle.arch.specs.Memo.{Good, Kept}
-use Rattle.arch.proofs.Sizes.{not-none, none-left, one-le, falls-less, sum-parts, half-le, half-less, half-back, back-on, rest-less, rest-le}
-use Rattle.arch.proofs.Memos.{part, fits, zero-is, part-next, part-fits, all-in, twice-fits, even-is, odd-is}
+use Rattle.arch.proofs.Sizes.{none-left, falls-less, sum-parts, half-less, half-back, back-on, rest-less, rest-le}
+use Rattle.arch.proofs.Memos.{C, part, fits, zero-is, part-next, part-fits, all-in, twice-fits, even-is, odd-is}
 use Rattle.arch.proofs.Memos.{good-set, kept-same, kept-on, kept-set}
-use Prim.Native.Nat.{ℕ, _+_, _-_, _*_, _/_, _≤_, _<_}
-use borrow.Fn.Kinds.{In}
+use Prim.Native.Nat.{ℕ, _+_, _-_, _*_, _/_, _^_, _≤_, _<_}
+use borrow.Fn.Kinds.{In, Out}
 use borrow.Fn.PlainCycle.{Measures, is, falls, and}
 use Rattle.arch.proofs.dyck.count_memo.Reads as count-memo
 use Rattle.arch.proofs.dyck.count_memo.Kinds as count-memo-kinds
@@ -26,20 +26,10 @@ abbrev μ-part-count : Measures 1 part-count-kinds.ps ℕ
 μ-part-count κs a = 2 * a .1 .0 + 1
 
 abbrev count-memo-at : ℕ → In 1 count-memo-kinds.ps
-count-memo-at t =
-    and 1 count-memo-kinds.ps (is 1 count-memo-kinds.ps μ-count-memo t) count-memo.Pre
-
-abbrev count-memo-below : ℕ → In 1 count-memo-kinds.ps
-count-memo-below t =
-    and 1 count-memo-kinds.ps (falls 1 count-memo-kinds.ps _<_ μ-count-memo t) count-memo.Pre
+count-memo-at t = and 1 count-memo-kinds.ps (is 1 count-memo-kinds.ps μ-count-memo t) count-memo.Pre
 
 abbrev part-count-at : ℕ → In 1 part-count-kinds.ps
-part-count-at t =
-    and 1 part-count-kinds.ps (is 1 part-count-kinds.ps μ-part-count t) part-count.Pre
-
-abbrev part-count-below : ℕ → In 1 part-count-kinds.ps
-part-count-below t =
-    and 1 part-count-kinds.ps (falls 1 part-count-kinds.ps _<_ μ-part-count t) part-count.Pre
+part-count-at t = and 1 part-count-kinds.ps (is 1 part-count-kinds.ps μ-part-count t) part-count.Pre
 
 abbrev count-memo-Inv-loop : count-memo-lts.InvT-loop
 count-memo-Inv-loop memo₀ n half sum₀ i₀ memo sum i = (i ≤ half) × Good memo × Kept memo₀ memo × (sum + part n i ≡ part n half)
@@ -47,304 +37,177 @@ count-memo-Inv-loop memo₀ n half sum₀ i₀ memo sum i = (i ≤ half) × Good
 abbrev count-memo-μ-loop : count-memo-lts.MeasureT-loop
 count-memo-μ-loop memo₀ n half sum₀ i₀ memo sum i = i
 
-count-memo-element-write-memo : (t : ℕ) → count-memo-lts.Need-element-write-memo (
-  part-count-below t,
-  part-count.Post,
-) (count-memo-at t) count-memo.Post count-memo-Inv-loop count-memo-μ-loop
-count-memo-element-write-memo t c = omega arith
+module _ (t : ℕ) where
+  -- what `count_memo` calls
+  abbrev parts : count-memo-lts.Claims
+  parts = (and 1 part-count-kinds.ps (falls 1 part-count-kinds.ps _<_ μ-part-count t) part-count.Pre, part-count.Post)
 
-count-memo-returns :
-    (t : ℕ) →
-    count-memo-lts.Need-returns
-    (part-count-below t, part-count.Post)
-    (count-memo-at t)
-    count-memo.Post
-    count-memo-Inv-loop
-    count-memo-μ-loop
-count-memo-returns t c =
-    let pre = c .before .pre in
-    (zero-is (c .before .args .n) (c .if1 .taken), good-set _ 0 1 (pre .1 .1) (zero-is 0 refl), kept-set _ 0 1 (pre .1 .1) (zero-is 0 refl))
+  -- a place of `count_memo`, or a fact that it asks for
+  abbrev Memo : (count-memo-lts.Claims → In 1 count-memo-kinds.ps → Out 1 count-memo-kinds.ps count-memo-kinds.r → count-memo-lts.InvT-loop → count-memo-lts.MeasureT-loop → Type 0) → Type 0
+  Memo At = At parts (count-memo-at t) count-memo.Post count-memo-Inv-loop count-memo-μ-loop
 
-count-memo-loop-holds : (t : ℕ) → count-memo-lts.Need-loop-holds (
-  part-count-below t,
-  part-count.Post,
-) (count-memo-at t) count-memo.Post count-memo-Inv-loop count-memo-μ-loop
-count-memo-loop-holds t c = (omega arith, c .before .pre .1 .1, kept-same _, omega arith)
+  some : (c : Memo count-memo-lts.Else1) → 0 < c .before .args .n
+  some c = pos-of-ne-zero (c .if1 .left)
 
-count-memo-sub-i :
-    (t : ℕ) →
-    count-memo-lts.Need-sub-i
-    (part-count-below t, part-count.Post)
-    (count-memo-at t)
-    count-memo.Post
-    count-memo-Inv-loop
-    count-memo-μ-loop
-count-memo-sub-i t c = omega arith
+  -- what is known in the loop once both parts are counted
+  module _ (c : Memo count-memo-lts.After-part-count2) where
+    abbrev turn : Memo count-memo-lts.At-loop
+    turn = c .before .before .before .before .before
 
-count-memo-part-count-requires : (t : ℕ) → count-memo-lts.Need-part-count-requires (
-  part-count-below t,
-  part-count.Post,
-) (count-memo-at t) count-memo.Post count-memo-Inv-loop count-memo-μ-loop
-count-memo-part-count-requires t c κs =
-    let pre = c .before .before .before .before .pre in
-    let pos = not-none _ (c .before .before .before .if1 .left) in
-    (falls-less _ _ _ (pre .0) (half-back _ _ pos (c .before .before .loop .inv .0)), (le-trans (le-of-lt (half-back _ _ pos (c .before .before .loop .inv .0))) (pre .1 .0), c .before .before .loop .inv .1))
+    abbrev n : ℕ
+    n = turn .before .before .args .n
 
-count-memo-sub-part-count : (t : ℕ) → count-memo-lts.Need-sub-part-count (
-  part-count-below t,
-  part-count.Post,
-) (count-memo-at t) count-memo.Post count-memo-Inv-loop count-memo-μ-loop
-count-memo-sub-part-count t c = omega arith
+    abbrev a : ℕ
+    a = c .before .before .part-count .result
 
-count-memo-sub-part-count-2 : (t : ℕ) → count-memo-lts.Need-sub-part-count-2 (
-  part-count-below t,
-  part-count.Post,
-) (count-memo-at t) count-memo.Post count-memo-Inv-loop count-memo-μ-loop
-count-memo-sub-part-count-2 t c = omega arith
+    from : turn .loop .sum + part n (turn .loop .i - 1 + 1) ≡ part n (n / 2)
+    from = rw (back-on _ (c .before .before .before .before .loop-test .taken)) (turn .loop .inv .3)
 
-count-memo-part-count-requires-2 : (t : ℕ) → count-memo-lts.Need-part-count-requires-2 (
-  part-count-below t,
-  part-count.Post,
-) (count-memo-at t) count-memo.Post count-memo-Inv-loop count-memo-μ-loop
-count-memo-part-count-requires-2 t c κs =
-    let pre = c .before .before .before .before .before .before .pre in
-    let pos = not-none _ (c .before .before .before .before .before .if1 .left) in
-    (falls-less _ _ _ (pre .0) (rest-less _ _ pos), (rest-le _ _ _ (pre .1 .0), c .before .part-count .ensures .1))
+    next : turn .loop .sum + a * c .part-count2 .result + part n (turn .loop .i - 1) ≡ part n (n / 2)
+    next = part-next n (turn .loop .i - 1) (n / 2) a (c .part-count2 .result) (turn .loop .sum) (some (turn .before)) (c .before .before .part-count .ensures .0) (c .part-count2 .ensures .0) from
 
-count-memo-mul-sum :
-    (t : ℕ) →
-    count-memo-lts.Need-mul-sum
-    (part-count-below t, part-count.Post)
-    (count-memo-at t)
-    count-memo.Post
-    count-memo-Inv-loop
-    count-memo-μ-loop
-count-memo-mul-sum t c =
-    let args = c .before .before .before .before .before .before .before .args in
-    let pre = c .before .before .before .before .before .before .before .pre in
-    let pos = not-none _ (c .before .before .before .before .before .before .if1 .left) in
-    let loop = c .before .before .before .before .before .loop in
-    let first = c .before .before .part-count in
-    let e : loop .i - 1 + 1 ≡ loop .i = back-on _ (c .before .before .before .before .loop-test .taken) in
-    record { fits = sum-parts _ _ _ refl (part-fits (args .n) (loop .i - 1) (args .n / 2) (first .result) (c .part-count2 .result) (loop .sum) pos (first .ensures .0) (c .part-count2 .ensures .0) (rw e (loop .inv .3)) (pre .1 .0) (half-le _)) .0 }
+    next-fits : turn .loop .sum + a * c .part-count2 .result < 2 ^ 64
+    next-fits = part-fits n (turn .loop .i - 1) (n / 2) a (c .part-count2 .result) (turn .loop .sum) (some (turn .before)) (c .before .before .part-count .ensures .0) (c .part-count2 .ensures .0) from (turn .before .before .pre .1 .0) (div-le-self _ 2)
 
-count-memo-add-sum :
-    (t : ℕ) →
-    count-memo-lts.Need-add-sum
-    (part-count-below t, part-count.Post)
-    (count-memo-at t)
-    count-memo.Post
-    count-memo-Inv-loop
-    count-memo-μ-loop
-count-memo-add-sum t c =
-    let args = c .before .before .before .before .before .before .before .args in
-    let pre = c .before .before .before .before .before .before .before .pre in
-    let pos = not-none _ (c .before .before .before .before .before .before .if1 .left) in
-    let loop = c .before .before .before .before .before .loop in
-    let first = c .before .before .part-count in
-    let e : loop .i - 1 + 1 ≡ loop .i = back-on _ (c .before .before .before .before .loop-test .taken) in
-    record { fits = part-fits (args .n) (loop .i - 1) (args .n / 2) (first .result) (c .part-count2 .result) (loop .sum) pos (first .ensures .0) (c .part-count2 .ensures .0) (rw e (loop .inv .3)) (pre .1 .0) (half-le _) }
+  -- after the loop
+  module _ (c : Memo count-memo-lts.After-loop) where
+    abbrev start : Memo count-memo-lts.Start
+    start = c .before .before .before
 
-count-memo-loop-less : (t : ℕ) → count-memo-lts.Need-loop-less (
-  part-count-below t,
-  part-count.Post,
-) (count-memo-at t) count-memo.Post count-memo-Inv-loop count-memo-μ-loop
-count-memo-loop-less t c = omega arith
+    whole : c .before .loop .sum ≡ part (start .args .n) (start .args .n / 2)
+    whole = all-in (start .args .n) (c .before .loop .i) (start .args .n / 2) (c .before .loop .sum) (none-left _ (c .loop-test .left)) (c .before .loop .inv .3)
 
-count-memo-loop-again : (t : ℕ) → count-memo-lts.Need-loop-again (
-  part-count-below t,
-  part-count.Post,
-) (count-memo-at t) count-memo.Post count-memo-Inv-loop count-memo-μ-loop
-count-memo-loop-again t c =
-    let args = c .before .before .before .before .before .before .before .args in
-    let pos = not-none _ (c .before .before .before .before .before .before .if1 .left) in
-    let loop = c .before .before .before .before .before .loop in
-    let first = c .before .before .part-count in
-    let e : loop .i - 1 + 1 ≡ loop .i = back-on _ (c .before .before .before .before .loop-test .taken) in
-    (le-trans (one-le _) (loop .inv .0), c .part-count2 .ensures .1, kept-on (kept-on (loop .inv .2) (first .ensures .2)) (c .part-count2 .ensures .2), part-next (args .n) (loop .i - 1) (args .n / 2) (first .result) (c .part-count2 .result) (loop .sum) pos (first .ensures .0) (c .part-count2 .ensures .0) (rw e (loop .inv .3)))
+  -- an odd n, once the middle is counted
+  module _ (c : Memo count-memo-lts.After-part-count3) where
+    abbrev over : Memo count-memo-lts.After-loop
+    over = c .before .before .before
 
-count-memo-add-twice : (t : ℕ) → count-memo-lts.Need-add-twice (
-  part-count-below t,
-  part-count.Post,
-) (count-memo-at t) count-memo.Post count-memo-Inv-loop count-memo-μ-loop
-count-memo-add-twice t c =
-    let args = c .before .before .before .args in
-    let pre = c .before .before .before .pre in
-    let pos = not-none _ (c .before .before .if1 .left) in
-    let loop = c .before .loop in
-    let whole = all-in (args .n) (loop .i) (args .n / 2) (loop .sum) (none-left _ (c .loop-test .left)) (loop .inv .3) in
-    record { fits = twice-fits (args .n) (args .n / 2) (loop .sum) pos refl whole (pre .1 .0) }
+    odd : over .before .loop .sum + over .before .loop .sum + c .part-count3 .result * c .part-count3 .result ≡ C (start over .args .n)
+    odd = odd-is (start over .args .n) (start over .args .n / 2) (over .before .loop .sum) (some (over .before .before)) refl (whole over) (c .part-count3 .result) (c .before .before .if2 .left) (c .part-count3 .ensures .0)
 
-count-memo-mul-memo :
-    (t : ℕ) →
-    count-memo-lts.Need-mul-memo
-    (part-count-below t, part-count.Post)
-    (count-memo-at t)
-    count-memo.Post
-    count-memo-Inv-loop
-    count-memo-μ-loop
-count-memo-mul-memo t c = omega arith
+  count-memo-element-write-memo : Memo count-memo-lts.Need-element-write-memo
+  count-memo-element-write-memo c = omega arith
 
-count-memo-element-write-memo-2 : (t : ℕ) → count-memo-lts.Need-element-write-memo-2 (
-  part-count-below t,
-  part-count.Post,
-) (count-memo-at t) count-memo.Post count-memo-Inv-loop count-memo-μ-loop
-count-memo-element-write-memo-2 t c = omega arith
+  count-memo-returns : Memo count-memo-lts.Need-returns
+  count-memo-returns c =
+      let pre = c .before .pre in
+      (zero-is (c .before .args .n) (c .if1 .taken), good-set _ 0 1 (pre .1 .1) (zero-is 0 refl), kept-set _ 0 1 (pre .1 .1) (zero-is 0 refl))
 
-count-memo-returns-2 : (t : ℕ) → count-memo-lts.Need-returns-2 (
-  part-count-below t,
-  part-count.Post,
-) (count-memo-at t) count-memo.Post count-memo-Inv-loop count-memo-μ-loop
-count-memo-returns-2 t c =
-    let args = c .before .before .before .before .args in
-    let pos = not-none _ (c .before .before .before .if1 .left) in
-    let loop = c .before .before .loop in
-    let whole = all-in (args .n) (loop .i) (args .n / 2) (loop .sum) (none-left _ (c .before .loop-test .left)) (loop .inv .3) in
-    let e = even-is (args .n) (args .n / 2) (loop .sum) pos refl whole (c .if2 .taken) in
-    (e, good-set _ (args .n) _ (loop .inv .1) e, kept-on (loop .inv .2) (kept-set _ (args .n) _ (loop .inv .1) e))
+  count-memo-loop-holds : Memo count-memo-lts.Need-loop-holds
+  count-memo-loop-holds c = (omega arith, c .before .pre .1 .1, kept-same _, omega arith)
 
-count-memo-part-count-requires-3 : (t : ℕ) → count-memo-lts.Need-part-count-requires-3 (
-  part-count-below t,
-  part-count.Post,
-) (count-memo-at t) count-memo.Post count-memo-Inv-loop count-memo-μ-loop
-count-memo-part-count-requires-3 t c κs =
-    let pre = c .before .before .before .before .before .pre in
-    let pos = not-none _ (c .before .before .before .before .if1 .left) in
-    (falls-less _ _ _ (pre .0) (half-less _ pos), (le-trans (half-le _) (pre .1 .0), c .before .before .before .loop .inv .1))
+  count-memo-sub-i : Memo count-memo-lts.Need-sub-i
+  count-memo-sub-i c = omega arith
 
-count-memo-mul-c :
-    (t : ℕ) →
-    count-memo-lts.Need-mul-c
-    (part-count-below t, part-count.Post)
-    (count-memo-at t)
-    count-memo.Post
-    count-memo-Inv-loop
-    count-memo-μ-loop
-count-memo-mul-c t c =
-    let args = c .before .before .before .before .before .before .args in
-    let pre = c .before .before .before .before .before .before .pre in
-    let pos = not-none _ (c .before .before .before .before .before .if1 .left) in
-    let loop = c .before .before .before .before .loop in
-    let whole = all-in (args .n) (loop .i) (args .n / 2) (loop .sum) (none-left _ (c .before .before .before .loop-test .left)) (loop .inv .3) in
-    let e = odd-is (args .n) (args .n / 2) (loop .sum) pos refl whole (c .part-count3 .result) (c .before .before .if2 .left) (c .part-count3 .ensures .0) in
-    record { fits = sum-parts _ _ _ e (fits (args .n) (pre .1 .0)) .0 }
+  count-memo-part-count-requires : Memo count-memo-lts.Need-part-count-requires
+  count-memo-part-count-requires c κs =
+      let pre = c .before .before .before .before .pre in
+      let less = half-back _ _ (some (c .before .before .before)) (c .before .before .loop .inv .0) in
+      (falls-less _ _ _ (pre .0) less, (le-trans (le-of-lt less) (pre .1 .0), c .before .before .loop .inv .1))
 
-count-memo-add-c :
-    (t : ℕ) →
-    count-memo-lts.Need-add-c
-    (part-count-below t, part-count.Post)
-    (count-memo-at t)
-    count-memo.Post
-    count-memo-Inv-loop
-    count-memo-μ-loop
-count-memo-add-c t c =
-    let args = c .before .before .before .before .before .before .args in
-    let pre = c .before .before .before .before .before .before .pre in
-    let pos = not-none _ (c .before .before .before .before .before .if1 .left) in
-    let loop = c .before .before .before .before .loop in
-    let whole = all-in (args .n) (loop .i) (args .n / 2) (loop .sum) (none-left _ (c .before .before .before .loop-test .left)) (loop .inv .3) in
-    let e = odd-is (args .n) (args .n / 2) (loop .sum) pos refl whole (c .part-count3 .result) (c .before .before .if2 .left) (c .part-count3 .ensures .0) in
-    record { fits = sum-parts _ _ _ e (fits (args .n) (pre .1 .0)) .1 }
+  count-memo-sub-part-count : Memo count-memo-lts.Need-sub-part-count
+  count-memo-sub-part-count c = omega arith
 
-count-memo-mul-memo-2 : (t : ℕ) → count-memo-lts.Need-mul-memo-2 (
-  part-count-below t,
-  part-count.Post,
-) (count-memo-at t) count-memo.Post count-memo-Inv-loop count-memo-μ-loop
-count-memo-mul-memo-2 t c = omega arith
+  count-memo-sub-part-count-2 : Memo count-memo-lts.Need-sub-part-count-2
+  count-memo-sub-part-count-2 c = omega arith
 
-count-memo-element-write-memo-3 : (t : ℕ) → count-memo-lts.Need-element-write-memo-3 (
-  part-count-below t,
-  part-count.Post,
-) (count-memo-at t) count-memo.Post count-memo-Inv-loop count-memo-μ-loop
-count-memo-element-write-memo-3 t c = omega arith
+  count-memo-part-count-requires-2 : Memo count-memo-lts.Need-part-count-requires-2
+  count-memo-part-count-requires-2 c κs =
+      let at = c .before .before .before .before .before in
+      (falls-less _ _ _ (at .before .pre .0) (rest-less _ _ (some at)), (rest-le _ _ _ (at .before .pre .1 .0), c .before .part-count .ensures .1))
 
-count-memo-returns-3 : (t : ℕ) → count-memo-lts.Need-returns-3 (
-  part-count-below t,
-  part-count.Post,
-) (count-memo-at t) count-memo.Post count-memo-Inv-loop count-memo-μ-loop
-count-memo-returns-3 t c =
-    let args = c .before .before .before .before .before .before .args in
-    let pos = not-none _ (c .before .before .before .before .before .if1 .left) in
-    let loop = c .before .before .before .before .loop in
-    let whole = all-in (args .n) (loop .i) (args .n / 2) (loop .sum) (none-left _ (c .before .before .before .loop-test .left)) (loop .inv .3) in
-    let e = odd-is (args .n) (args .n / 2) (loop .sum) pos refl whole (c .part-count3 .result) (c .before .before .if2 .left) (c .part-count3 .ensures .0) in
-    let middle = c .part-count3 .ensures in
-    (e, good-set _ (args .n) _ (middle .1) e, kept-on (kept-on (loop .inv .2) (middle .2)) (kept-set _ (args .n) _ (middle .1) e))
+  count-memo-mul-sum : Memo count-memo-lts.Need-mul-sum
+  count-memo-mul-sum c = record { fits = sum-parts _ _ _ refl (next-fits c) .0 }
 
-part-count-mul-known : (t : ℕ) → part-count-lts.Need-mul-known (
-  count-memo-below t,
-  count-memo.Post,
-) (part-count-at t) part-count.Post
-part-count-mul-known t c = omega arith
+  count-memo-add-sum : Memo count-memo-lts.Need-add-sum
+  count-memo-add-sum c = record { fits = next-fits c }
 
-part-count-element-copy-out-known : (t : ℕ) → part-count-lts.Need-element-copy-out-known (
-  count-memo-below t,
-  count-memo.Post,
-) (part-count-at t) part-count.Post
-part-count-element-copy-out-known t c = omega arith
+  count-memo-loop-less : Memo count-memo-lts.Need-loop-less
+  count-memo-loop-less c = omega arith
 
-part-count-returns :
-    (t : ℕ) →
-    part-count-lts.Need-returns
-    (count-memo-below t, count-memo.Post)
-    (part-count-at t)
-    part-count.Post
-unfolding Good
-part-count-returns t c =
-    let pre = c .before .before .pre in
-    (pre .1 .1 _ (c .if1 .taken), pre .1 .1, kept-same _)
+  count-memo-loop-again : Memo count-memo-lts.Need-loop-again
+  count-memo-loop-again c =
+      let inv = turn c .loop .inv in
+      (le-trans (sub-le _ 1) (inv .0), c .part-count2 .ensures .1, kept-on (kept-on (inv .2) (c .before .before .part-count .ensures .2)) (c .part-count2 .ensures .2), next c)
 
-part-count-count-memo-requires : (t : ℕ) → part-count-lts.Need-count-memo-requires (
-  count-memo-below t,
-  count-memo.Post,
-) (part-count-at t) part-count.Post
-part-count-count-memo-requires t c κs =
-    let pre = c .before .before .before .pre in
-    (omega arith, (omega arith, pre .1 .1))
+  count-memo-add-twice : Memo count-memo-lts.Need-add-twice
+  count-memo-add-twice c = record { fits = twice-fits (start c .args .n) (start c .args .n / 2) (c .before .loop .sum) (some (c .before .before)) refl (whole c) (start c .pre .1 .0) }
 
-part-count-returns-2 : (t : ℕ) → part-count-lts.Need-returns-2 (
-  count-memo-below t,
-  count-memo.Post,
-) (part-count-at t) part-count.Post
-part-count-returns-2 t c = c .count-memo .ensures
+  count-memo-mul-memo : Memo count-memo-lts.Need-mul-memo
+  count-memo-mul-memo c = omega arith
+
+  count-memo-element-write-memo-2 : Memo count-memo-lts.Need-element-write-memo-2
+  count-memo-element-write-memo-2 c = omega arith
+
+  count-memo-returns-2 : Memo count-memo-lts.Need-returns-2
+  count-memo-returns-2 c =
+      let n = start (c .before) .args .n in
+      let loop = c .before .before .loop in
+      let e = even-is n (n / 2) (loop .sum) (some (c .before .before .before)) refl (whole (c .before)) (c .if2 .taken) in
+      (e, good-set _ n _ (loop .inv .1) e, kept-on (loop .inv .2) (kept-set _ n _ (loop .inv .1) e))
+
+  count-memo-part-count-requires-3 : Memo count-memo-lts.Need-part-count-requires-3
+  count-memo-part-count-requires-3 c κs =
+      let at = c .before .before .before .before in
+      (falls-less _ _ _ (at .before .pre .0) (half-less _ (some at)), (le-trans (div-le-self _ 2) (at .before .pre .1 .0), c .before .before .before .loop .inv .1))
+
+  count-memo-mul-c : Memo count-memo-lts.Need-mul-c
+  count-memo-mul-c c = record { fits = sum-parts _ _ _ (odd c) (fits _ (start (over c) .pre .1 .0)) .0 }
+
+  count-memo-add-c : Memo count-memo-lts.Need-add-c
+  count-memo-add-c c = record { fits = sum-parts _ _ _ (odd c) (fits _ (start (over c) .pre .1 .0)) .1 }
+
+  count-memo-mul-memo-2 : Memo count-memo-lts.Need-mul-memo-2
+  count-memo-mul-memo-2 c = omega arith
+
+  count-memo-element-write-memo-3 : Memo count-memo-lts.Need-element-write-memo-3
+  count-memo-element-write-memo-3 c = omega arith
+
+  count-memo-returns-3 : Memo count-memo-lts.Need-returns-3
+  count-memo-returns-3 c =
+      let n = start (over c) .args .n in
+      let middle = c .part-count3 .ensures in
+      (odd c, good-set _ n _ (middle .1) (odd c), kept-on (kept-on (over c .before .loop .inv .2) (middle .2)) (kept-set _ n _ (middle .1) (odd c)))
+
+  count-memo-met : {M : Type 1} → count-memo-lts.Closed parts (count-memo-at t) count-memo.Post M
+  count-memo-met =
+      count-memo-lts.spec parts (count-memo-at t) count-memo.Post count-memo-Inv-loop count-memo-μ-loop
+      count-memo-element-write-memo count-memo-returns count-memo-loop-holds count-memo-sub-i count-memo-part-count-requires
+      count-memo-sub-part-count count-memo-sub-part-count-2 count-memo-part-count-requires-2 count-memo-mul-sum count-memo-add-sum
+      count-memo-loop-less count-memo-loop-again count-memo-add-twice count-memo-mul-memo count-memo-element-write-memo-2
+      count-memo-returns-2 count-memo-part-count-requires-3 count-memo-mul-c count-memo-add-c count-memo-mul-memo-2
+      count-memo-element-write-memo-3 count-memo-returns-3
+
+  -- what `part_count` calls
+  abbrev all : part-count-lts.Claims
+  all = (and 1 count-memo-kinds.ps (falls 1 count-memo-kinds.ps _<_ μ-count-memo t) count-memo.Pre, count-memo.Post)
+
+  -- a fact that `part_count` asks for
+  abbrev Part : (part-count-lts.Claims → In 1 part-count-kinds.ps → Out 1 part-count-kinds.ps part-count-kinds.r → Type 0) → Type 0
+  Part At = At all (part-count-at t) part-count.Post
+
+  part-count-mul-known : Part part-count-lts.Need-mul-known
+  part-count-mul-known c = omega arith
+
+  part-count-element-copy-out-known : Part part-count-lts.Need-element-copy-out-known
+  part-count-element-copy-out-known c = omega arith
+
+  part-count-returns : Part part-count-lts.Need-returns
+  unfolding Good
+  part-count-returns c =
+      let good = c .before .before .pre .1 .1 in
+      (good _ (c .if1 .taken), good, kept-same _)
+
+  part-count-count-memo-requires : Part part-count-lts.Need-count-memo-requires
+  part-count-count-memo-requires c κs = (omega arith, (omega arith, c .before .before .before .pre .1 .1))
+
+  part-count-returns-2 : Part part-count-lts.Need-returns-2
+  part-count-returns-2 c = c .count-memo .ensures
+
+  part-count-met : {M : Type 1} → part-count-lts.Closed all (part-count-at t) part-count.Post M
+  part-count-met =
+      part-count-lts.spec all (part-count-at t) part-count.Post part-count-mul-known part-count-element-copy-out-known
+      part-count-returns part-count-count-memo-requires part-count-returns-2
 
 pub +count-memo+part-count-spec : {M : Type 1} → statement M
-+count-memo+part-count-spec = close μ-count-memo μ-part-count (λ t. count-memo-lts.spec (
-  part-count-below t,
-  part-count.Post,
-)
-    (count-memo-at t)
-    count-memo.Post
-    count-memo-Inv-loop
-    count-memo-μ-loop
-    (count-memo-element-write-memo t)
-    (count-memo-returns t)
-    (count-memo-loop-holds t)
-    (count-memo-sub-i t)
-    (count-memo-part-count-requires t)
-    (count-memo-sub-part-count t)
-    (count-memo-sub-part-count-2 t)
-    (count-memo-part-count-requires-2 t)
-    (count-memo-mul-sum t)
-    (count-memo-add-sum t)
-    (count-memo-loop-less t)
-    (count-memo-loop-again t)
-    (count-memo-add-twice t)
-    (count-memo-mul-memo t)
-    (count-memo-element-write-memo-2 t)
-    (count-memo-returns-2 t)
-    (count-memo-part-count-requires-3 t)
-    (count-memo-mul-c t)
-    (count-memo-add-c t)
-    (count-memo-mul-memo-2 t)
-    (count-memo-element-write-memo-3 t)
-    (count-memo-returns-3 t))
-    λ t. part-count-lts.spec
-    (count-memo-below t, count-memo.Post)
-    (part-count-at t)
-    part-count.Post
-    (part-count-mul-known t)
-    (part-count-element-copy-out-known t)
-    (part-count-returns t)
-    (part-count-count-memo-requires t)
-    (part-count-returns-2 t)
++count-memo+part-count-spec = close μ-count-memo μ-part-count (λ t. count-memo-met t) λ t. part-count-met t

@@ -1,4 +1,4 @@
--- An empty memo is good.
+-- `arch::dyck::dyck_count` meets its contract: an empty memo is good. Assumes nothing.
 use Rattle.arch.proofs.Memos.{good-none}
 use borrow.Author.Needs.{needs}
 use Rattle.arch.proofs.dyck.dyck_count.Statement.{statement}

@@ -1,4 +1,4 @@
--- The loop has the counts below k in the memo, and no call loses them.
+-- `arch::dyck::dyck_counts` meets its contract: the loop has the counts below k in the memo, and no call loses them. Assumes nothing.
 use mathlib.Core.Path.{_≡_, refl, _∙_}
 use Prim.Native.Nat.{_+_, _-_, _≤_}
 use native.Mathlib.Omega.{arith}
@@ -45,15 +45,4 @@ returns c =
 
 pub dyck-counts-spec : {M : Type 1} → statement M
 dyck-counts-spec =
-    tie.close
-    (tie.spec
-    Inv-loop
-    μ-loop
-    loop-holds
-    count-memo-requires
-    mul-memo
-    array-write-memo
-    add-k
-    loop-less
-    loop-again
-    returns)
+    tie.close (tie.spec Inv-loop μ-loop loop-holds count-memo-requires mul-memo array-write-memo add-k loop-less loop-again returns)

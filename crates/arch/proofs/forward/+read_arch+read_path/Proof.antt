@@ -1,17 +1,17 @@
--- The loop of the path reader knows the tree that is read so far. The bytes that are left fall at each call of the arch reader, which
--- hands on as many as it has. Assumes nothing.
+-- `read_arch` and `read_path` meet their contracts: the loop of the path reader knows the tree that is read so far. The bytes that are left
+-- fall at each call of the arch reader, which hands on as many as it has. Assumes nothing.
 use mathlib.Core.Bool.{true}
-use native.Mathlib.Nat.{lt-of-le-of-lt, sub-le}
+use native.Mathlib.Nat.{lt-of-le-of-lt, sub-le, le-add-right}
 use native.Mathlib.Numerals.{add-one-le}
 use lib.Dec.{lit≤}
 use lib.ListN.{length, getD}
 use Rattle.arch.specs.Reading.{Begun, PathRead, ArchRead}
-use Rattle.arch.proofs.Sizes.{le-more, more-le, falls-other, falls-less, left-one, wide-less, inside-some, inside-le, byte-fits, next-fits, sum-fits, wide-fits, parts-fit}
+use Rattle.arch.proofs.Sizes.{more-le, falls-other, falls-less, left-one, wide-less, inside-some, inside-le, byte-fits, next-fits, sum-fits, wide-fits, parts-fit}
 use Rattle.arch.proofs.Tables.{table-less}
 use Rattle.arch.proofs.Reading.{path-good, path-bad, arch-good, arch-bad, begun-start, begun-fits, moves, wide, no-room, with-dee, arch-falls, no-arch, with-arch, ends-over, ends-here}
 use Rattle.arch.proofs.Reading.{no-east, no-inside, no-end, no-north, arch-read}
-use Prim.Native.Nat.{ℕ, _+_, _-_, _*_, _≤_, _<_}
-use borrow.Fn.Kinds.{In}
+use Prim.Native.Nat.{ℕ, _+_, _-_, _*_, _^_, _≤_, _<_}
+use borrow.Fn.Kinds.{In, Out}
 use borrow.Fn.PlainCycle.{Measures, is, falls, and}
 use Rattle.arch.proofs.forward.read_arch.Reads as read-arch
 use Rattle.arch.proofs.forward.read_arch.Kinds as read-arch-kinds
@@ -32,127 +32,8 @@ abbrev μ-read-path : Measures 2 read-path-kinds.ps ℕ
 abbrev read-arch-at : ℕ → In 2 read-arch-kinds.ps
 read-arch-at t = and 2 read-arch-kinds.ps (is 2 read-arch-kinds.ps μ-read-arch t) read-arch.Pre
 
-abbrev read-arch-below : ℕ → In 2 read-arch-kinds.ps
-read-arch-below t =
-    and 2 read-arch-kinds.ps (falls 2 read-arch-kinds.ps _<_ μ-read-arch t) read-arch.Pre
-
 abbrev read-path-at : ℕ → In 2 read-path-kinds.ps
 read-path-at t = and 2 read-path-kinds.ps (is 2 read-path-kinds.ps μ-read-path t) read-path.Pre
-
-abbrev read-path-below : ℕ → In 2 read-path-kinds.ps
-read-path-below t =
-    and 2 read-path-kinds.ps (falls 2 read-path-kinds.ps _<_ μ-read-path t) read-path.Pre
-
-read-arch-add-if1 :
-    (t : ℕ) →
-    read-arch-lts.Need-add-if1 (read-path-below t, read-path.Post) (read-arch-at t) read-arch.Post
-read-arch-add-if1 t c =
-    record { fits = sum-fits _ 1 (c .before .before .pre .1 .0 .family) (lit≤ tt) }
-
-read-arch-returns :
-    (t : ℕ) →
-    read-arch-lts.Need-returns (read-path-below t, read-path.Post) (read-arch-at t) read-arch.Post
-read-arch-returns t c =
-    no-east _ _ _ (c .if1 .taken)
-
-read-arch-shared-slice-read-if3 : (t : ℕ) → read-arch-lts.Need-shared-slice-read-if3 (
-  read-path-below t,
-  read-path.Post,
-) (read-arch-at t) read-arch.Post
-read-arch-shared-slice-read-if3 t c =
-    c .before .if2 .taken
-
-read-arch-add-t13 :
-    (t : ℕ) →
-    read-arch-lts.Need-add-t13 (read-path-below t, read-path.Post) (read-arch-at t) read-arch.Post
-read-arch-add-t13 t c =
-    record { fits = next-fits _ _ (c .before .before .if2 .taken) (c .before .before .before .before .before .before .good .0 .0) }
-
-read-arch-returns-2 :
-    (t : ℕ) →
-    read-arch-lts.Need-returns-2
-    (read-path-below t, read-path.Post)
-    (read-arch-at t)
-    read-arch.Post
-read-arch-returns-2 t c =
-    arch-read (c .before .before .before .if1 .left) (begun-start (c .before .before .before .before .before .before .pre .1 .1)) (c .before .before .if2 .taken) (c .if3 .taken)
-
-read-arch-sub-read-path : (t : ℕ) → read-arch-lts.Need-sub-read-path (
-  read-path-below t,
-  read-path.Post,
-) (read-arch-at t) read-arch.Post
-read-arch-sub-read-path t c =
-    more-le _ 1 _ (c .before .if1 .left)
-
-read-arch-sub-read-path-2 : (t : ℕ) → read-arch-lts.Need-sub-read-path-2 (
-  read-path-below t,
-  read-path.Post,
-) (read-arch-at t) read-arch.Post
-read-arch-sub-read-path-2 t c =
-    inside-some _ _ (c .before .if1 .left)
-
-read-arch-read-path-requires : (t : ℕ) → read-arch-lts.Need-read-path-requires (
-  read-path-below t,
-  read-path.Post,
-) (read-arch-at t) read-arch.Post
-read-arch-read-path-requires t c κs =
-    (falls-other _ _ (c .before .before .before .before .pre .0), (table-less true _ _ _ _ (inside-le _ _) (c .before .before .before .before .pre .1 .0), c .before .before .before .before .pre .1 .1))
-
-read-arch-returns-3 :
-    (t : ℕ) →
-    read-arch-lts.Need-returns-3
-    (read-path-below t, read-path.Post)
-    (read-arch-at t)
-    read-arch.Post
-read-arch-returns-3 t c =
-    no-inside _ _ _ (c .before .before .before .before .if1 .left) (path-bad (c .before .before .read-path .result .good) _ _ _ _ _ _ _ (c .if4 .taken) (c .before .before .read-path .ensures))
-
--- the inside that is read
-read-arch-inside : (t : ℕ) (c : read-arch-lts.Else4 (read-path-below t, read-path.Post) (read-arch-at t) read-arch.Post) →
-    let args = c .before .before .before .before .before .before .before .args in
-    let got = c .before .before .read-path .result in
-    PathRead (args .v) (args .room - args .v - 1) (args .s .now) (args .from) (got .next) (got .size) (got .number)
-read-arch-inside t c = path-good (c .before .before .read-path .result .good) _ _ _ _ _ _ _ (c .if4 .left) (c .before .before .read-path .ensures)
-
-read-arch-returns-4 :
-    (t : ℕ) →
-    read-arch-lts.Need-returns-4
-    (read-path-below t, read-path.Post)
-    (read-arch-at t)
-    read-arch.Post
-read-arch-returns-4 t c =
-    no-end (read-arch-inside t (c .before)) _ (c .if5 .taken)
-
-read-arch-shared-slice-read-if6 : (t : ℕ) → read-arch-lts.Need-shared-slice-read-if6 (
-  read-path-below t,
-  read-path.Post,
-) (read-arch-at t) read-arch.Post
-read-arch-shared-slice-read-if6 t c =
-    c .before .if5 .left
-
-read-arch-returns-5 :
-    (t : ℕ) →
-    read-arch-lts.Need-returns-5
-    (read-path-below t, read-path.Post)
-    (read-arch-at t)
-    read-arch.Post
-read-arch-returns-5 t c =
-    no-north (read-arch-inside t (c .before .before .before)) _ (c .if6 .taken)
-
-read-arch-add-t8 :
-    (t : ℕ) →
-    read-arch-lts.Need-add-t8 (read-path-below t, read-path.Post) (read-arch-at t) read-arch.Post
-read-arch-add-t8 t c =
-    record { fits = next-fits _ _ (c .before .before .if5 .left) (c .before .before .before .before .before .before .before .before .before .before .good .0 .0) }
-
-read-arch-returns-6 :
-    (t : ℕ) →
-    read-arch-lts.Need-returns-6
-    (read-path-below t, read-path.Post)
-    (read-arch-at t)
-    read-arch.Post
-read-arch-returns-6 t c =
-    arch-read (c .before .before .before .before .before .before .before .if1 .left) (read-arch-inside t (c .before .before .before) .begun) (c .before .before .if5 .left) (c .if6 .left)
 
 abbrev read-path-Inv-loop : read-path-lts.InvT-loop
 read-path-Inv-loop s table v from room next₀ size₀ number₀ next size number = Begun v room s from next size number
@@ -160,307 +41,192 @@ read-path-Inv-loop s table v from room next₀ size₀ number₀ next size numbe
 abbrev read-path-μ-loop : read-path-lts.MeasureT-loop
 read-path-μ-loop s table v from room next₀ size₀ number₀ next size number = length s - next
 
-read-path-loop-holds : (t : ℕ) → read-path-lts.Need-loop-holds (
-  read-arch-below t,
-  read-arch.Post,
-  lower-reads.Asked,
-  lower-reads.Learnt,
-) (read-path-at t) read-path.Post read-path-Inv-loop read-path-μ-loop
-read-path-loop-holds t c =
-    begun-start (c .before .before .pre .1 .1)
+module _ (t : ℕ) where
+  -- what `read_arch` calls
+  abbrev inner : read-arch-lts.Claims
+  inner = (and 2 read-path-kinds.ps (falls 2 read-path-kinds.ps _<_ μ-read-path t) read-path.Pre, read-path.Post)
 
-read-path-shared-slice-read-b : (t : ℕ) → read-path-lts.Need-shared-slice-read-b (
-  read-arch-below t,
-  read-arch.Post,
-  lower-reads.Asked,
-  lower-reads.Learnt,
-) (read-path-at t) read-path.Post read-path-Inv-loop read-path-μ-loop
-read-path-shared-slice-read-b t c =
-    c .before .loop-test .taken
+  -- a place of `read_arch`, or a fact that it asks for
+  abbrev Arch : (read-arch-lts.Claims → In 2 read-arch-kinds.ps → Out 2 read-arch-kinds.ps read-arch-kinds.r → Type 0) → Type 0
+  Arch At = At inner (read-arch-at t) read-arch.Post
 
-read-path-add-read-arch : (t : ℕ) → read-path-lts.Need-add-read-arch (
-  read-arch-below t,
-  read-arch.Post,
-  lower-reads.Asked,
-  lower-reads.Learnt,
-) (read-path-at t) read-path.Post read-path-Inv-loop read-path-μ-loop
-read-path-add-read-arch t c =
-    record { fits = next-fits _ _ (c .before .before .loop-test .taken) (c .before .before .before .before .before .before .good .0 .0) }
+  read-arch-add-if1 : Arch read-arch-lts.Need-add-if1
+  read-arch-add-if1 c = record { fits = sum-fits _ 1 (c .before .before .pre .1 .0 .family) (lit≤ tt) }
 
-read-path-sub-read-arch : (t : ℕ) → read-path-lts.Need-sub-read-arch (
-  read-arch-below t,
-  read-arch.Post,
-  lower-reads.Asked,
-  lower-reads.Learnt,
-) (read-path-at t) read-path.Post read-path-Inv-loop read-path-μ-loop
-read-path-sub-read-arch t c =
-    c .before .before .before .loop .inv .fits
+  read-arch-returns : Arch read-arch-lts.Need-returns
+  read-arch-returns c = no-east _ _ _ (c .if1 .taken)
 
-read-path-read-arch-requires : (t : ℕ) → read-path-lts.Need-read-arch-requires (
-  read-arch-below t,
-  read-arch.Post,
-  lower-reads.Asked,
-  lower-reads.Learnt,
-) (read-path-at t) read-path.Post read-path-Inv-loop read-path-μ-loop
-read-path-read-arch-requires t c κs =
-    (falls-less _ _ _ (c .before .before .before .before .before .before .pre .0) (arch-falls (c .before .before .before .loop .inv) (c .before .before .loop-test .taken)), (table-less true _ _ _ _ (sub-le _ _) (c .before .before .before .before .before .before .pre .1 .0), add-one-le (c .before .before .loop-test .taken)))
+  read-arch-shared-slice-read-if3 : Arch read-arch-lts.Need-shared-slice-read-if3
+  read-arch-shared-slice-read-if3 c = c .before .if2 .taken
 
-read-path-returns : (t : ℕ) → read-path-lts.Need-returns (
-  read-arch-below t,
-  read-arch.Post,
-  lower-reads.Asked,
-  lower-reads.Learnt,
-) (read-path-at t) read-path.Post read-path-Inv-loop read-path-μ-loop
-read-path-returns t c =
-    no-arch (c .before .before .before .before .before .before .loop .inv) (c .before .before .before .before .before .loop-test .taken) (c .before .before .before .if1 .taken) (arch-bad (c .before .before .read-arch .result .good) _ _ _ _ _ _ _ (c .if2 .taken) (c .before .before .read-arch .ensures))
+  read-arch-add-t13 : Arch read-arch-lts.Need-add-t13
+  read-arch-add-t13 c = record { fits = next-fits _ _ (c .before .before .if2 .taken) (c .before .before .before .before .before .before .good .0 .0) }
 
--- the arch that is read, its room, and the path with it
-read-path-arch : (t : ℕ) (c : read-path-lts.Else2 (
-  read-arch-below t,
-  read-arch.Post,
-  lower-reads.Asked,
-  lower-reads.Learnt,
-) (read-path-at t) read-path.Post read-path-Inv-loop read-path-μ-loop) →
-    let args = c .before .before .before .before .before .before .before .before .before .args in
-    let loop = c .before .before .before .before .before .before .loop in
-    let got = c .before .before .read-arch .result in
-    ArchRead (args .v) (args .room - loop .size) (args .s .now) (loop .next + 1) (got .next) (got .size) (got .number)
-read-path-arch t c = arch-good (c .before .before .read-arch .result .good) _ _ _ _ _ _ _ (c .if2 .left) (c .before .before .read-arch .ensures)
+  read-arch-returns-2 : Arch read-arch-lts.Need-returns-2
+  read-arch-returns-2 c = arch-read (c .before .before .before .if1 .left) (begun-start (c .before .before .before .before .before .before .pre .1 .1)) (c .before .before .if2 .taken) (c .if3 .taken)
 
-read-path-wide : (t : ℕ) (c : read-path-lts.Else2 (
-  read-arch-below t,
-  read-arch.Post,
-  lower-reads.Asked,
-  lower-reads.Learnt,
-) (read-path-at t) read-path.Post read-path-Inv-loop read-path-μ-loop) →
-    let args = c .before .before .before .before .before .before .before .before .before .args in
-    c .before .before .before .before .before .before .loop .size + c .before .before .read-arch .result .size + args .v + 1 ≤ args .room
-read-path-wide t c = wide (c .before .before .before .before .before .before .loop .inv) (read-path-arch t c)
+  read-arch-sub-read-path : Arch read-arch-lts.Need-sub-read-path
+  read-arch-sub-read-path c = more-le _ 1 _ (c .before .if1 .left)
 
-read-path-longer : (t : ℕ) (c : read-path-lts.After-lower (
-  read-arch-below t,
-  read-arch.Post,
-  lower-reads.Asked,
-  lower-reads.Learnt,
-) (read-path-at t) read-path.Post read-path-Inv-loop read-path-μ-loop) →
-    let args = c .before .before .before .before .before .before .before .before .before .before .before .args in
-    let loop = c .before .before .before .before .before .before .before .before .loop in
-    let got = c .before .before .before .before .read-arch .result in
-    Begun (args .v) (args .room) (args .s .now) (args .from) (got .next) (loop .size + got .size + args .v + 1) (c .lower .result + (loop .number + getD (args .table .now) (loop .size) 0 * got .number))
-read-path-longer t c =
-    let loop = c .before .before .before .before .before .before .before .before .loop in
-    with-arch (loop .inv) (c .before .before .before .before .before .before .before .loop-test .taken) (c .before .before .before .before .before .if1 .taken) (read-path-arch t (c .before .before)) _ _ (c .lower .ensures) (c .before .before .before .before .before .before .before .before .before .before .before .pre .1 .0 .full (loop .size) (loop .inv .fits))
+  read-arch-sub-read-path-2 : Arch read-arch-lts.Need-sub-read-path-2
+  read-arch-sub-read-path-2 c = inside-some _ _ (c .before .if1 .left)
 
-read-path-add-m : (t : ℕ) → read-path-lts.Need-add-m (
-  read-arch-below t,
-  read-arch.Post,
-  lower-reads.Asked,
-  lower-reads.Learnt,
-) (read-path-at t) read-path.Post read-path-Inv-loop read-path-μ-loop
-read-path-add-m t c =
-    record { fits = wide-fits _ _ _ (read-path-wide t (c .before)) (c .before .before .before .before .before .before .before .before .before .before .pre .1 .0 .small) .0 }
+  read-arch-read-path-requires : Arch read-arch-lts.Need-read-path-requires
+  read-arch-read-path-requires c κs = (falls-other _ _ (c .before .before .before .before .pre .0), (table-less true _ _ _ _ (inside-le _ _) (c .before .before .before .before .pre .1 .0), c .before .before .before .before .pre .1 .1))
 
-read-path-lower-requires : (t : ℕ) → read-path-lts.Need-lower-requires (
-  read-arch-below t,
-  read-arch.Post,
-  lower-reads.Asked,
-  lower-reads.Learnt,
-) (read-path-at t) read-path.Post read-path-Inv-loop read-path-μ-loop
-read-path-lower-requires t c κs =
-    (c .before .before .before .before .before .before .before .before .before .before .pre .1 .0, wide-less _ _ _ (read-path-wide t (c .before)), le-more _ _)
+  read-arch-returns-3 : Arch read-arch-lts.Need-returns-3
+  read-arch-returns-3 c = no-inside _ _ _ (c .before .before .before .before .if1 .left) (path-bad (c .before .before .read-path .result .good) _ _ _ _ _ _ _ (c .if4 .taken) (c .before .before .read-path .ensures))
 
-read-path-mul-number : (t : ℕ) → read-path-lts.Need-mul-number (
-  read-arch-below t,
-  read-arch.Post,
-  lower-reads.Asked,
-  lower-reads.Learnt,
-) (read-path-at t) read-path.Post read-path-Inv-loop read-path-μ-loop
-read-path-mul-number t c =
-    record { fits = byte-fits _ _ (c .before .before .before .before .before .before .before .before .loop .inv .fits) (c .before .before .before .before .before .before .before .before .before .before .before .pre .1 .0 .small) }
+  -- the inside that is read
+  inside : (c : Arch read-arch-lts.Else4) →
+      let args = c .before .before .before .before .before .before .before .args in
+      let got = c .before .before .read-path .result in
+      PathRead (args .v) (args .room - args .v - 1) (args .s .now) (args .from) (got .next) (got .size) (got .number)
+  inside c = path-good (c .before .before .read-path .result .good) _ _ _ _ _ _ _ (c .if4 .left) (c .before .before .read-path .ensures)
 
-read-path-shared-slice-read-number : (t : ℕ) → read-path-lts.Need-shared-slice-read-number (
-  read-arch-below t,
-  read-arch.Post,
-  lower-reads.Asked,
-  lower-reads.Learnt,
-) (read-path-at t) read-path.Post read-path-Inv-loop read-path-μ-loop
-read-path-shared-slice-read-number t c =
-    lt-of-le-of-lt (c .before .before .before .before .before .before .before .before .before .loop .inv .fits) (c .before .before .before .before .before .before .before .before .before .before .before .before .pre .1 .0 .long)
+  read-arch-returns-4 : Arch read-arch-lts.Need-returns-4
+  read-arch-returns-4 c = no-end (inside (c .before)) _ (c .if5 .taken)
 
-read-path-mul-number-2 : (t : ℕ) → read-path-lts.Need-mul-number-2 (
-  read-arch-below t,
-  read-arch.Post,
-  lower-reads.Asked,
-  lower-reads.Learnt,
-) (read-path-at t) read-path.Post read-path-Inv-loop read-path-μ-loop
-read-path-mul-number-2 t c =
-    record { fits = parts-fit _ _ _ (begun-fits (read-path-longer t (c .before .before)) (c .before .before .before .before .before .before .before .before .before .before .before .before .before .pre .1 .0)) .0 }
+  read-arch-shared-slice-read-if6 : Arch read-arch-lts.Need-shared-slice-read-if6
+  read-arch-shared-slice-read-if6 c = c .before .if5 .left
 
-read-path-add-number : (t : ℕ) → read-path-lts.Need-add-number (
-  read-arch-below t,
-  read-arch.Post,
-  lower-reads.Asked,
-  lower-reads.Learnt,
-) (read-path-at t) read-path.Post read-path-Inv-loop read-path-μ-loop
-read-path-add-number t c =
-    record { fits = parts-fit _ _ _ (begun-fits (read-path-longer t (c .before .before)) (c .before .before .before .before .before .before .before .before .before .before .before .before .before .pre .1 .0)) .1 }
+  read-arch-returns-5 : Arch read-arch-lts.Need-returns-5
+  read-arch-returns-5 c = no-north (inside (c .before .before .before)) _ (c .if6 .taken)
 
-read-path-add-number-2 : (t : ℕ) → read-path-lts.Need-add-number-2 (
-  read-arch-below t,
-  read-arch.Post,
-  lower-reads.Asked,
-  lower-reads.Learnt,
-) (read-path-at t) read-path.Post read-path-Inv-loop read-path-μ-loop
-read-path-add-number-2 t c =
-    record { fits = begun-fits (read-path-longer t (c .before .before)) (c .before .before .before .before .before .before .before .before .before .before .before .before .before .pre .1 .0) }
+  read-arch-add-t8 : Arch read-arch-lts.Need-add-t8
+  read-arch-add-t8 c = record { fits = next-fits _ _ (c .before .before .if5 .left) (c .before .before .before .before .before .before .before .before .before .before .good .0 .0) }
 
-read-path-add-size : (t : ℕ) → read-path-lts.Need-add-size (
-  read-arch-below t,
-  read-arch.Post,
-  lower-reads.Asked,
-  lower-reads.Learnt,
-) (read-path-at t) read-path.Post read-path-Inv-loop read-path-μ-loop
-read-path-add-size t c =
-    record { fits = wide-fits _ _ _ (read-path-wide t (c .before .before .before .before)) (c .before .before .before .before .before .before .before .before .before .before .before .before .before .pre .1 .0 .small) .1 }
+  read-arch-returns-6 : Arch read-arch-lts.Need-returns-6
+  read-arch-returns-6 c = arch-read (c .before .before .before .before .before .before .before .if1 .left) (inside (c .before .before .before) .begun) (c .before .before .if5 .left) (c .if6 .left)
 
-read-path-add-size-2 : (t : ℕ) → read-path-lts.Need-add-size-2 (
-  read-arch-below t,
-  read-arch.Post,
-  lower-reads.Asked,
-  lower-reads.Learnt,
-) (read-path-at t) read-path.Post read-path-Inv-loop read-path-μ-loop
-read-path-add-size-2 t c =
-    record { fits = wide-fits _ _ _ (read-path-wide t (c .before .before .before .before)) (c .before .before .before .before .before .before .before .before .before .before .before .before .before .pre .1 .0 .small) .2 }
+  read-arch-met : {M : Type 1} → read-arch-lts.Closed inner (read-arch-at t) read-arch.Post M
+  read-arch-met =
+      read-arch-lts.spec inner (read-arch-at t) read-arch.Post read-arch-add-if1 read-arch-returns read-arch-shared-slice-read-if3
+      read-arch-add-t13 read-arch-returns-2 read-arch-sub-read-path read-arch-sub-read-path-2 read-arch-read-path-requires
+      read-arch-returns-3 read-arch-returns-4 read-arch-shared-slice-read-if6 read-arch-returns-5 read-arch-add-t8
+      read-arch-returns-6
 
-read-path-loop-less : (t : ℕ) → read-path-lts.Need-loop-less (
-  read-arch-below t,
-  read-arch.Post,
-  lower-reads.Asked,
-  lower-reads.Learnt,
-) (read-path-at t) read-path.Post read-path-Inv-loop read-path-μ-loop
-read-path-loop-less t c =
-    moves (c .before .before .before .before .before .before .before .before .before .before .loop .inv) (read-path-arch t (c .before .before .before .before))
+  -- what `read_path` calls
+  abbrev outer : read-path-lts.Claims
+  outer = (and 2 read-arch-kinds.ps (falls 2 read-arch-kinds.ps _<_ μ-read-arch t) read-arch.Pre, read-arch.Post, lower-reads.Asked, lower-reads.Learnt)
 
-read-path-loop-again : (t : ℕ) → read-path-lts.Need-loop-again (
-  read-arch-below t,
-  read-arch.Post,
-  lower-reads.Asked,
-  lower-reads.Learnt,
-) (read-path-at t) read-path.Post read-path-Inv-loop read-path-μ-loop
-read-path-loop-again t c =
-    read-path-longer t (c .before .before)
+  -- a place of `read_path`, or a fact that it asks for
+  abbrev Path : (read-path-lts.Claims → In 2 read-path-kinds.ps → Out 2 read-path-kinds.ps read-path-kinds.r → read-path-lts.InvT-loop → read-path-lts.MeasureT-loop → Type 0) → Type 0
+  Path At = At outer (read-path-at t) read-path.Post read-path-Inv-loop read-path-μ-loop
 
-read-path-returns-2 : (t : ℕ) → read-path-lts.Need-returns-2 (
-  read-arch-below t,
-  read-arch.Post,
-  lower-reads.Asked,
-  lower-reads.Learnt,
-) (read-path-at t) read-path.Post read-path-Inv-loop read-path-μ-loop
-read-path-returns-2 t c =
-    no-room (c .before .before .before .before .before .loop .inv) (c .before .before .before .before .loop-test .taken) (c .before .if3 .left) (c .if4 .taken)
+  read-path-loop-holds : Path read-path-lts.Need-loop-holds
+  read-path-loop-holds c = begun-start (c .before .before .pre .1 .1)
 
-read-path-add-next : (t : ℕ) → read-path-lts.Need-add-next (
-  read-arch-below t,
-  read-arch.Post,
-  lower-reads.Asked,
-  lower-reads.Learnt,
-) (read-path-at t) read-path.Post read-path-Inv-loop read-path-μ-loop
-read-path-add-next t c =
-    record { fits = next-fits _ _ (c .before .before .before .before .loop-test .taken) (c .before .before .before .before .before .before .before .before .good .0 .0) }
+  read-path-shared-slice-read-b : Path read-path-lts.Need-shared-slice-read-b
+  read-path-shared-slice-read-b c = c .before .loop-test .taken
 
-read-path-add-size-3 : (t : ℕ) → read-path-lts.Need-add-size-3 (
-  read-arch-below t,
-  read-arch.Post,
-  lower-reads.Asked,
-  lower-reads.Learnt,
-) (read-path-at t) read-path.Post read-path-Inv-loop read-path-μ-loop
-read-path-add-size-3 t c =
-    record { fits = sum-fits _ _ (c .before .before .before .before .before .loop .inv .fits) (c .before .before .before .before .before .before .before .before .pre .1 .0 .small) }
+  read-path-add-read-arch : Path read-path-lts.Need-add-read-arch
+  read-path-add-read-arch c = record { fits = next-fits _ _ (c .before .before .loop-test .taken) (c .before .before .before .before .before .before .good .0 .0) }
 
-read-path-loop-less-2 : (t : ℕ) → read-path-lts.Need-loop-less-2 (
-  read-arch-below t,
-  read-arch.Post,
-  lower-reads.Asked,
-  lower-reads.Learnt,
-) (read-path-at t) read-path.Post read-path-Inv-loop read-path-μ-loop
-read-path-loop-less-2 t c =
-    left-one _ _ (c .before .before .before .before .loop-test .taken)
+  read-path-sub-read-arch : Path read-path-lts.Need-sub-read-arch
+  read-path-sub-read-arch c = c .before .before .before .loop .inv .fits
 
-read-path-loop-again-2 : (t : ℕ) → read-path-lts.Need-loop-again-2 (
-  read-arch-below t,
-  read-arch.Post,
-  lower-reads.Asked,
-  lower-reads.Learnt,
-) (read-path-at t) read-path.Post read-path-Inv-loop read-path-μ-loop
-read-path-loop-again-2 t c =
-    with-dee (c .before .before .before .before .before .loop .inv) (c .before .before .before .before .loop-test .taken) (c .before .if3 .left) (c .if4 .left)
+  read-path-read-arch-requires : Path read-path-lts.Need-read-arch-requires
+  read-path-read-arch-requires c κs = (falls-less _ _ _ (c .before .before .before .before .before .before .pre .0) (arch-falls (c .before .before .before .loop .inv) (c .before .before .loop-test .taken)), (table-less true _ _ _ _ (sub-le _ _) (c .before .before .before .before .before .before .pre .1 .0), add-one-le (c .before .before .loop-test .taken)))
 
-read-path-returns-3 : (t : ℕ) → read-path-lts.Need-returns-3 (
-  read-arch-below t,
-  read-arch.Post,
-  lower-reads.Asked,
-  lower-reads.Learnt,
-) (read-path-at t) read-path.Post read-path-Inv-loop read-path-μ-loop
-read-path-returns-3 t c =
-    ends-over (c .before .loop .inv) (c .loop-test .left)
+  read-path-returns : Path read-path-lts.Need-returns
+  read-path-returns c = no-arch (c .before .before .before .before .before .before .loop .inv) (c .before .before .before .before .before .loop-test .taken) (c .before .before .before .if1 .taken) (arch-bad (c .before .before .read-arch .result .good) _ _ _ _ _ _ _ (c .if2 .taken) (c .before .before .read-arch .ensures))
 
-read-path-returns-4 : (t : ℕ) → read-path-lts.Need-returns-4 (
-  read-arch-below t,
-  read-arch.Post,
-  lower-reads.Asked,
-  lower-reads.Learnt,
-) (read-path-at t) read-path.Post read-path-Inv-loop read-path-μ-loop
-read-path-returns-4 t c =
-    ends-here (c .before .before .before .before .loop .inv) (c .before .before .before .loop-test .taken) (c .before .if1 .left) (c .if3 .taken)
+  -- what is known once an arch is read
+  module _ (c : Path read-path-lts.Else2) where
+    abbrev start : Path read-path-lts.Start
+    start = c .before .before .before .before .before .before .before .before .before
+
+    abbrev turn : Path read-path-lts.At-loop
+    turn = c .before .before .before .before .before .before
+
+    small : start .args .room ≤ 45
+    small = start .pre .1 .0 .small
+
+    arch : ArchRead (start .args .v) (start .args .room - turn .loop .size) (start .args .s .now) (turn .loop .next + 1) (c .before .before .read-arch .result .next) (c .before .before .read-arch .result .size) (c .before .before .read-arch .result .number)
+    arch = arch-good (c .before .before .read-arch .result .good) _ _ _ _ _ _ _ (c .if2 .left) (c .before .before .read-arch .ensures)
+
+    broad : turn .loop .size + c .before .before .read-arch .result .size + start .args .v + 1 ≤ start .args .room
+    broad = wide (turn .loop .inv) arch
+
+  -- and once the number before it is worked out
+  module _ (c : Path read-path-lts.After-lower) where
+    abbrev read : Path read-path-lts.Else2
+    read = c .before .before
+
+    abbrev number : ℕ
+    number = c .lower .result + (turn read .loop .number + getD (start read .args .table .now) (turn read .loop .size) 0 * read .before .before .read-arch .result .number)
+
+    longer : Begun (start read .args .v) (start read .args .room) (start read .args .s .now) (start read .args .from) (read .before .before .read-arch .result .next) (turn read .loop .size + read .before .before .read-arch .result .size + start read .args .v + 1) number
+    longer =
+        let loop = turn read .loop in
+        with-arch (loop .inv) (read .before .before .before .before .before .loop-test .taken) (read .before .before .before .if1 .taken) (arch read) _ _ (c .lower .ensures) (start read .pre .1 .0 .full (loop .size) (loop .inv .fits))
+
+    fits : number < 2 ^ 64
+    fits = begun-fits longer (start read .pre .1 .0)
+
+  read-path-add-m : Path read-path-lts.Need-add-m
+  read-path-add-m c = record { fits = wide-fits _ _ _ (broad (c .before)) (small (c .before)) .0 }
+
+  read-path-lower-requires : Path read-path-lts.Need-lower-requires
+  read-path-lower-requires c κs = (start (c .before) .pre .1 .0, wide-less _ _ _ (broad (c .before)), le-add-right _ _)
+
+  read-path-mul-number : Path read-path-lts.Need-mul-number
+  read-path-mul-number c = record { fits = byte-fits _ _ (turn (c .before .before) .loop .inv .fits) (small (c .before .before)) }
+
+  read-path-shared-slice-read-number : Path read-path-lts.Need-shared-slice-read-number
+  read-path-shared-slice-read-number c = lt-of-le-of-lt (turn (c .before .before .before) .loop .inv .fits) (start (c .before .before .before) .pre .1 .0 .long)
+
+  read-path-mul-number-2 : Path read-path-lts.Need-mul-number-2
+  read-path-mul-number-2 c = record { fits = parts-fit _ _ _ (fits (c .before .before)) .0 }
+
+  read-path-add-number : Path read-path-lts.Need-add-number
+  read-path-add-number c = record { fits = parts-fit _ _ _ (fits (c .before .before)) .1 }
+
+  read-path-add-number-2 : Path read-path-lts.Need-add-number-2
+  read-path-add-number-2 c = record { fits = fits (c .before .before) }
+
+  read-path-add-size : Path read-path-lts.Need-add-size
+  read-path-add-size c = record { fits = wide-fits _ _ _ (broad (c .before .before .before .before)) (small (c .before .before .before .before)) .1 }
+
+  read-path-add-size-2 : Path read-path-lts.Need-add-size-2
+  read-path-add-size-2 c = record { fits = wide-fits _ _ _ (broad (c .before .before .before .before)) (small (c .before .before .before .before)) .2 }
+
+  read-path-loop-less : Path read-path-lts.Need-loop-less
+  read-path-loop-less c = moves (turn (c .before .before .before .before) .loop .inv) (arch (c .before .before .before .before))
+
+  read-path-loop-again : Path read-path-lts.Need-loop-again
+  read-path-loop-again c = longer (c .before .before)
+
+  read-path-returns-2 : Path read-path-lts.Need-returns-2
+  read-path-returns-2 c = no-room (c .before .before .before .before .before .loop .inv) (c .before .before .before .before .loop-test .taken) (c .before .if3 .left) (c .if4 .taken)
+
+  read-path-add-next : Path read-path-lts.Need-add-next
+  read-path-add-next c = record { fits = next-fits _ _ (c .before .before .before .before .loop-test .taken) (c .before .before .before .before .before .before .before .before .good .0 .0) }
+
+  read-path-add-size-3 : Path read-path-lts.Need-add-size-3
+  read-path-add-size-3 c = record { fits = sum-fits _ _ (c .before .before .before .before .before .loop .inv .fits) (c .before .before .before .before .before .before .before .before .pre .1 .0 .small) }
+
+  read-path-loop-less-2 : Path read-path-lts.Need-loop-less-2
+  read-path-loop-less-2 c = left-one _ _ (c .before .before .before .before .loop-test .taken)
+
+  read-path-loop-again-2 : Path read-path-lts.Need-loop-again-2
+  read-path-loop-again-2 c = with-dee (c .before .before .before .before .before .loop .inv) (c .before .before .before .before .loop-test .taken) (c .before .if3 .left) (c .if4 .left)
+
+  read-path-returns-3 : Path read-path-lts.Need-returns-3
+  read-path-returns-3 c = ends-over (c .before .loop .inv) (c .loop-test .left)
+
+  read-path-returns-4 : Path read-path-lts.Need-returns-4
+  read-path-returns-4 c = ends-here (c .before .before .before .before .loop .inv) (c .before .before .before .loop-test .taken) (c .before .if1 .left) (c .if3 .taken)
+
+  read-path-met : {M : Type 1} → read-path-lts.Closed outer (read-path-at t) read-path.Post M
+  read-path-met =
+      read-path-lts.spec outer (read-path-at t) read-path.Post read-path-Inv-loop read-path-μ-loop read-path-loop-holds
+      read-path-shared-slice-read-b read-path-add-read-arch read-path-sub-read-arch read-path-read-arch-requires read-path-returns
+      read-path-add-m read-path-lower-requires read-path-mul-number read-path-shared-slice-read-number read-path-mul-number-2
+      read-path-add-number read-path-add-number-2 read-path-add-size read-path-add-size-2 read-path-loop-less read-path-loop-again
+      read-path-returns-2 read-path-add-next read-path-add-size-3 read-path-loop-less-2 read-path-loop-again-2 read-path-returns-3
+      read-path-returns-4
 
 pub +read-arch+read-path-spec : {M : Type 1} → statement M
-+read-arch+read-path-spec = close μ-read-arch μ-read-path (λ t. read-arch-lts.spec (
-  read-path-below t,
-  read-path.Post,
-)
-    (read-arch-at t)
-    read-arch.Post
-    (read-arch-add-if1 t)
-    (read-arch-returns t)
-    (read-arch-shared-slice-read-if3 t)
-    (read-arch-add-t13 t)
-    (read-arch-returns-2 t)
-    (read-arch-sub-read-path t)
-    (read-arch-sub-read-path-2 t)
-    (read-arch-read-path-requires t)
-    (read-arch-returns-3 t)
-    (read-arch-returns-4 t)
-    (read-arch-shared-slice-read-if6 t)
-    (read-arch-returns-5 t)
-    (read-arch-add-t8 t)
-    (read-arch-returns-6 t))
-    λ t. read-path-lts.spec
-    (read-arch-below t, read-arch.Post, lower-reads.Asked, lower-reads.Learnt)
-    (read-path-at t)
-    read-path.Post
-    read-path-Inv-loop
-    read-path-μ-loop
-    (read-path-loop-holds t)
-    (read-path-shared-slice-read-b t)
-    (read-path-add-read-arch t)
-    (read-path-sub-read-arch t)
-    (read-path-read-arch-requires t)
-    (read-path-returns t)
-    (read-path-add-m t)
-    (read-path-lower-requires t)
-    (read-path-mul-number t)
-    (read-path-shared-slice-read-number t)
-    (read-path-mul-number-2 t)
-    (read-path-add-number t)
-    (read-path-add-number-2 t)
-    (read-path-add-size t)
-    (read-path-add-size-2 t)
-    (read-path-loop-less t)
-    (read-path-loop-again t)
-    (read-path-returns-2 t)
-    (read-path-add-next t)
-    (read-path-add-size-3 t)
-    (read-path-loop-less-2 t)
-    (read-path-loop-again-2 t)
-    (read-path-returns-3 t)
-    (read-path-returns-4 t)
++read-arch+read-path-spec = close μ-read-arch μ-read-path (λ t. read-arch-met t) λ t. read-path-met t

@@ -1,4 +1,4 @@
--- All of the bytes are read, and to (n, n); or no walk goes by them.
+-- `arch::forward::number` meets its contract: all of the bytes are read, and to (n, n), or no walk goes by them. Assumes nothing.
 use Rattle.arch.specs.Reading.{PathRead}
 use Rattle.arch.proofs.Reading.{path-good, path-bad, none-way, none-long, none-size, is-edge}
 use borrow.Author.Needs.{needs}

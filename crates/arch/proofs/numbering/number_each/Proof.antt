@@ -83,23 +83,5 @@ returns-2 c = numbers-of (c .before .before .before .before .before .pre .0) _ _
 
 pub number-each-spec : {M : Type 1} → statement M
 number-each-spec =
-    tie.close
-    (tie.spec
-    Inv-loop
-    μ-loop
-    loop-holds
-    mul-end
-    shared-slice-read-end
-    part-requires
-    rank-requires
-    enum-known-r
-    enum-told
-    same-length
-    returns
-    mul-numbers
-    slice-write-numbers
-    add-i
-    loop-less
-    loop-again
-    same-length-2
-    returns-2)
+    tie.close (tie.spec Inv-loop μ-loop loop-holds mul-end shared-slice-read-end part-requires rank-requires enum-known-r enum-told
+    same-length returns mul-numbers slice-write-numbers add-i loop-less loop-again same-length-2 returns-2)

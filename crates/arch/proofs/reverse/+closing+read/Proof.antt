@@ -1,10 +1,16 @@
--- What is left of the room falls at each `N`.
-use native.Mathlib.Nat.{le-trans, lt-of-le-of-lt}
-use lib.ListN.{length, getD}
-use Rattle.arch.proofs.Sizes.{not-none, one-less, one-le, le-more, falls-other, falls-less, byte-fits, parts-fit, back-less, back-le, rest-less, rest-le, both-less, both-fits, both-le}
+-- `closing` and `read` meet their contracts. What is known of the inside and of the first part is said once, of the place in `closing` where
+-- it is known, by the laws of `ReadingBack`. What is left of the room falls at each `N`. Assumes nothing.
+use mathlib.Core.Path.{_≡_}
+use mathlib.Core.Bool.{false}
+use mathlib.Core.List.{List}
+use native.Mathlib.Nat.{le-trans, lt-of-le-of-lt, pos-of-ne-zero, sub-le, le-add-right}
+use lib.ListN.{length, getD, take}
+use Rattle.arch.proofs.Sizes.{one-less, falls-other, falls-less, byte-fits, parts-fit, back-less, back-le, rest-less, rest-le, both-less, both-fits, both-le}
 use Rattle.arch.proofs.ReadingBack.{part-good, part-bad, ok-none, ok-end, no-room, no-inside, inner-within, no-start, no-east, no-first, both-small, ok-arch, arch-fits}
-use Prim.Native.Nat.{ℕ, _+_, _-_, _*_, _<_, zero-le}
-use borrow.Fn.Kinds.{In}
+use Prim.Native.Nat.{ℕ, _+_, _-_, _*_, _^_, _≤_, _<_, zero-le}
+use borrow.Fn.Kinds.{In, Out}
+use Rattle.arches.specs.Counts.{count}
+use Rattle.arch.specs.ReadingBack.{Ok}
 use borrow.Fn.PlainCycle.{Measures, is, falls, and}
 use Rattle.arch.proofs.reverse.closing.Reads as closing
 use Rattle.arch.proofs.reverse.closing.Kinds as closing-kinds
@@ -25,481 +31,233 @@ abbrev μ-read : Measures 2 read-kinds.ps ℕ
 abbrev closing-at : ℕ → In 2 closing-kinds.ps
 closing-at t = and 2 closing-kinds.ps (is 2 closing-kinds.ps μ-closing t) closing.Pre
 
-abbrev closing-below : ℕ → In 2 closing-kinds.ps
-closing-below t = and 2 closing-kinds.ps (falls 2 closing-kinds.ps _<_ μ-closing t) closing.Pre
-
 abbrev read-at : ℕ → In 2 read-kinds.ps
 read-at t = and 2 read-kinds.ps (is 2 read-kinds.ps μ-read t) read.Pre
 
-abbrev read-below : ℕ → In 2 read-kinds.ps
-read-below t = and 2 read-kinds.ps (falls 2 read-kinds.ps _<_ μ-read t) read.Pre
+module _ (t : ℕ) where
+  -- what `closing` calls
+  abbrev parts : closing-lts.Claims
+  parts = (and 2 read-kinds.ps (falls 2 read-kinds.ps _<_ μ-read t) read.Pre, read.Post, lower-reads.Asked, lower-reads.Learnt)
 
-closing-sub-l : (t : ℕ) → closing-lts.Need-sub-l (
-  read-below t,
-  read.Post,
-  lower-reads.Asked,
-  lower-reads.Learnt,
-) (closing-at t) closing.Post
-closing-sub-l t c =
-    c .before .before .pre .1 .2
+  -- a place of `closing`, or a fact that it asks for
+  abbrev Closing : (closing-lts.Claims → In 2 closing-kinds.ps → Out 2 closing-kinds.ps closing-kinds.r → Type 0) → Type 0
+  Closing At = At parts (closing-at t) closing.Post
 
-closing-returns : (t : ℕ) → closing-lts.Need-returns (
-  read-below t,
-  read.Post,
-  lower-reads.Asked,
-  lower-reads.Learnt,
-) (closing-at t) closing.Post
-closing-returns t c =
-    let args = c .before .before .before .args in
-    let pre = c .before .before .before .pre in
-    no-room (args .room) (args .s .now) (pre .1 .2) (pre .1 .3) (c .if1 .taken)
+  -- what is known once the inside is read
+  module _ (c : Closing closing-lts.Else2) where
+    abbrev start : Closing closing-lts.Start
+    start = c .before .before .before .before .before .before .before
 
-closing-sub-read : (t : ℕ) → closing-lts.Need-sub-read (
-  read-below t,
-  read.Post,
-  lower-reads.Asked,
-  lower-reads.Learnt,
-) (closing-at t) closing.Post
-closing-sub-read t c =
-    zero-le
+    abbrev s : List ℕ
+    s = start .args .s .now
 
-closing-part-read-start : (t : ℕ) → closing-lts.Need-part-read-start (
-  read-below t,
-  read.Post,
-  lower-reads.Asked,
-  lower-reads.Learnt,
-) (closing-at t) closing.Post
-closing-part-read-start t c =
-    zero-le
+    some : 0 < start .args .room
+    some = pos-of-ne-zero (c .before .before .before .before .if1 .left)
 
-closing-part-read-end : (t : ℕ) → closing-lts.Need-part-read-end (
-  read-below t,
-  read.Post,
-  lower-reads.Asked,
-  lower-reads.Learnt,
-) (closing-at t) closing.Post
-closing-part-read-end t c =
-    one-le _
+    inside : let got = c .before .before .read .result in Ok (start .args .room - 1) (take (length s - 1) s) (got .at) (got .size) (got .number)
+    inside = part-good (c .before .before .read .result .good) _ s (length s - 1) _ _ _ (c .if2 .left) (c .before .before .read .ensures)
 
-closing-sub-read-2 : (t : ℕ) → closing-lts.Need-sub-read-2 (
-  read-below t,
-  read.Post,
-  lower-reads.Asked,
-  lower-reads.Learnt,
-) (closing-at t) closing.Post
-closing-sub-read-2 t c =
-    not-none _ (c .before .if1 .left)
+    within : c .before .before .read .result .at ≤ length s - 1
+    within = inner-within (start .args .room) s (start .pre .1 .2) (start .pre .1 .3) some inside
 
-closing-read-requires : (t : ℕ) → closing-lts.Need-read-requires (
-  read-below t,
-  read.Post,
-  lower-reads.Asked,
-  lower-reads.Learnt,
-) (closing-at t) closing.Post
-closing-read-requires t c κs =
-    let pre = c .before .before .before .before .pre in
-    (falls-less _ _ _ (pre .0) (one-less _ (not-none _ (c .before .if1 .left))), (pre .1 .0, le-trans (one-le _) (pre .1 .1)))
+  -- what is known once the first part is read too
+  module _ (c : Closing closing-lts.Else5) where
+    abbrev at-inside : Closing closing-lts.Else2
+    at-inside = c .before .before .before .before .before .before .before .before .before .before
 
-closing-returns-2 : (t : ℕ) → closing-lts.Need-returns-2 (
-  read-below t,
-  read.Post,
-  lower-reads.Asked,
-  lower-reads.Learnt,
-) (closing-at t) closing.Post
-closing-returns-2 t c =
-    let args = c .before .before .before .before .before .before .before .args in
-    let pre = c .before .before .before .before .before .before .before .pre in
-    let read = c .before .before .read in
-    no-inside (args .room) (args .s .now) (pre .1 .2) (pre .1 .3) (not-none _ (c .before .before .before .before .if1 .left)) (part-bad (read .result .good) (args .room - 1) (args .s .now) (length (args .s .now) - 1) (read .result .at) (read .result .size) (read .result .number) (c .if2 .taken) (read .ensures))
+    abbrev top : Closing closing-lts.Start
+    top = start at-inside
 
-closing-returns-3 : (t : ℕ) → closing-lts.Need-returns-3 (
-  read-below t,
-  read.Post,
-  lower-reads.Asked,
-  lower-reads.Learnt,
-) (closing-at t) closing.Post
-closing-returns-3 t c =
-    let args = c .before .before .before .before .before .before .before .before .before .args in
-    let pre = c .before .before .before .before .before .before .before .before .before .pre in
-    let read = c .before .before .before .before .read in
-    let inside = part-good (read .result .good) (args .room - 1) (args .s .now) (length (args .s .now) - 1) (read .result .at) (read .result .size) (read .result .number) (c .before .before .if2 .left) (read .ensures) in
-    no-start (args .room) (args .s .now) (pre .1 .2) (pre .1 .3) (not-none _ (c .before .before .before .before .before .before .if1 .left)) inside (c .if3 .taken)
+    abbrev k : ℕ
+    k = at-inside .before .before .read .result .at
 
-closing-sub-f : (t : ℕ) → closing-lts.Need-sub-f (
-  read-below t,
-  read.Post,
-  lower-reads.Asked,
-  lower-reads.Learnt,
-) (closing-at t) closing.Post
-closing-sub-f t c =
-    not-none _ (c .before .if3 .left)
+    abbrev j : ℕ
+    j = at-inside .before .before .read .result .size
 
-closing-shared-slice-read-if4 : (t : ℕ) → closing-lts.Need-shared-slice-read-if4 (
-  read-below t,
-  read.Post,
-  lower-reads.Asked,
-  lower-reads.Learnt,
-) (closing-at t) closing.Post
-closing-shared-slice-read-if4 t c =
-    let args = c .before .before .before .before .before .before .before .before .before .before .before .args in
-    let pre = c .before .before .before .before .before .before .before .before .before .before .before .pre in
-    let read = c .before .before .before .before .before .before .read in
-    let inside = part-good (read .result .good) (args .room - 1) (args .s .now) (length (args .s .now) - 1) (read .result .at) (read .result .size) (read .result .number) (c .before .before .before .before .if2 .left) (read .ensures) in
-    back-less _ _ (pre .1 .2) (inner-within (args .room) (args .s .now) (pre .1 .2) (pre .1 .3) (not-none _ (c .before .before .before .before .before .before .before .before .if1 .left)) inside)
+    first : let got = c .before .before .read2 .result in Ok (top .args .room - 1 - j) (take (k - 1) (s at-inside)) (got .at) (got .size) (got .number)
+    first = part-good (c .before .before .read2 .result .good) _ (s at-inside) (k - 1) _ _ _ (c .if5 .left) (c .before .before .read2 .ensures)
 
-closing-returns-4 : (t : ℕ) → closing-lts.Need-returns-4 (
-  read-below t,
-  read.Post,
-  lower-reads.Asked,
-  lower-reads.Learnt,
-) (closing-at t) closing.Post
-closing-returns-4 t c =
-    let args = c .before .before .before .before .before .before .before .before .before .before .before .before .args in
-    let pre = c .before .before .before .before .before .before .before .before .before .before .before .before .pre in
-    let read = c .before .before .before .before .before .before .before .read in
-    let if2 = c .before .before .before .before .before .if2 in
-    let inside = part-good (read .result .good) (args .room - 1) (args .s .now) (length (args .s .now) - 1) (read .result .at) (read .result .size) (read .result .number) (if2 .left) (read .ensures) in
-    no-east (args .room) (args .s .now) (pre .1 .2) (pre .1 .3) (not-none _ (c .before .before .before .before .before .before .before .before .before .if1 .left)) inside (not-none _ (c .before .before .before .if3 .left)) (c .if4 .taken)
+    opens : 0 < k
+    opens = pos-of-ne-zero (c .before .before .before .before .before .before .before .before .if3 .left)
 
-closing-sub-read-3 : (t : ℕ) → closing-lts.Need-sub-read-3 (
-  read-below t,
-  read.Post,
-  lower-reads.Asked,
-  lower-reads.Learnt,
-) (closing-at t) closing.Post
-closing-sub-read-3 t c =
-    zero-le
+    east : getD (s at-inside) (k - 1) 0 ≡ 69
+    east = c .before .before .before .before .before .if4 .left
 
-closing-part-read-start-2 : (t : ℕ) → closing-lts.Need-part-read-start-2 (
-  read-below t,
-  read.Post,
-  lower-reads.Asked,
-  lower-reads.Learnt,
-) (closing-at t) closing.Post
-closing-part-read-start-2 t c =
-    zero-le
+    both : c .before .before .read2 .result .size + j + 1 ≤ top .args .room
+    both = both-small (top .args .room) (s at-inside) (top .pre .1 .2) (top .pre .1 .3) (some at-inside) (inside at-inside) opens east first
 
-closing-part-read-end-2 : (t : ℕ) → closing-lts.Need-part-read-end-2 (
-  read-below t,
-  read.Post,
-  lower-reads.Asked,
-  lower-reads.Learnt,
-) (closing-at t) closing.Post
-closing-part-read-end-2 t c =
-    let args = c .before .before .before .before .before .before .before .before .before .before .before .before .args in
-    let pre = c .before .before .before .before .before .before .before .before .before .before .before .before .pre in
-    let read = c .before .before .before .before .before .before .before .read in
-    let if2 = c .before .before .before .before .before .if2 in
-    let inside = part-good (read .result .good) (args .room - 1) (args .s .now) (length (args .s .now) - 1) (read .result .at) (read .result .size) (read .result .number) (if2 .left) (read .ensures) in
-    back-le _ _ (inner-within (args .room) (args .s .now) (pre .1 .2) (pre .1 .3) (not-none _ (c .before .before .before .before .before .before .before .before .before .if1 .left)) inside)
+    listed : c .before .before .read2 .result .size ≤ top .args .n
+    listed = both-le _ _ _ _ both (top .pre .1 .1)
 
-closing-sub-read-4 : (t : ℕ) → closing-lts.Need-sub-read-4 (
-  read-below t,
-  read.Post,
-  lower-reads.Asked,
-  lower-reads.Learnt,
-) (closing-at t) closing.Post
-closing-sub-read-4 t c =
-    not-none _ (c .before .before .before .before .before .before .before .before .before .before .if1 .left)
+  -- what is known once the number before it is worked out
+  module _ (c : Closing closing-lts.After-lower) where
+    abbrev at-first : Closing closing-lts.Else5
+    at-first = c .before .before
 
-closing-sub-read-5 : (t : ℕ) → closing-lts.Need-sub-read-5 (
-  read-below t,
-  read.Post,
-  lower-reads.Asked,
-  lower-reads.Learnt,
-) (closing-at t) closing.Post
-closing-sub-read-5 t c =
-    let args = c .before .before .before .before .before .before .before .before .before .before .before .before .before .before .args in
-    let read = c .before .before .before .before .before .before .before .before .before .read in
-    let if2 = c .before .before .before .before .before .before .before .if2 in
-    let inside = part-good (read .result .good) (args .room - 1) (args .s .now) (length (args .s .now) - 1) (read .result .at) (read .result .size) (read .result .number) (if2 .left) (read .ensures) in
-    inside .small
+    abbrev i : ℕ
+    i = at-first .before .before .read2 .result .size
 
-closing-read-requires-2 : (t : ℕ) → closing-lts.Need-read-requires-2 (
-  read-below t,
-  read.Post,
-  lower-reads.Asked,
-  lower-reads.Learnt,
-) (closing-at t) closing.Post
-closing-read-requires-2 t c κs =
-    let pre = c .before .before .before .before .before .before .before .before .before .before .before .before .before .before .pre in
-    (falls-less _ _ _ (pre .0) (rest-less _ _ (not-none _ (c .before .before .before .before .before .before .before .before .before .before .before .if1 .left))), (pre .1 .0, rest-le _ _ _ (pre .1 .1)))
+    counted : getD (top at-first .args .table .now) i 0 ≡ count false 0 i
+    counted = top at-first .pre .1 .0 .full i (listed at-first)
 
-closing-returns-5 : (t : ℕ) → closing-lts.Need-returns-5 (
-  read-below t,
-  read.Post,
-  lower-reads.Asked,
-  lower-reads.Learnt,
-) (closing-at t) closing.Post
-closing-returns-5 t c =
-    let if1 = c .before .before .before .before .before .before .before .before .before .before .before .before .before .before .if1 in
-    let if3 = c .before .before .before .before .before .before .before .before .if3 in
-    let args = c .before .before .before .before .before .before .before .before .before .before .before .before .before .before .before .before .before .args in
-    let pre = c .before .before .before .before .before .before .before .before .before .before .before .before .before .before .before .before .before .pre in
-    let read = c .before .before .before .before .before .before .before .before .before .before .before .before .read in
-    let if2 = c .before .before .before .before .before .before .before .before .before .before .if2 in
-    let if4 = c .before .before .before .before .before .if4 in
-    let read2 = c .before .before .read2 in
-    let inside = part-good (read .result .good) (args .room - 1) (args .s .now) (length (args .s .now) - 1) (read .result .at) (read .result .size) (read .result .number) (if2 .left) (read .ensures) in
-    no-first (args .room) (args .s .now) (pre .1 .2) (pre .1 .3) (not-none _ (if1 .left)) inside (not-none _ (if3 .left)) (if4 .left) (part-bad (read2 .result .good) (args .room - 1 - read .result .size) (args .s .now) (read .result .at - 1) (read2 .result .at) (read2 .result .size) (read2 .result .number) (c .if5 .taken) (read2 .ensures))
+    fits : c .lower .result + (at-first .before .before .read2 .result .number + getD (top at-first .args .table .now) i 0 * at-inside at-first .before .before .read .result .number) < 2 ^ 64
+    fits = arch-fits (top at-first .args .room) (s (at-inside at-first)) (top at-first .pre .1 .2) (top at-first .pre .1 .3) (some (at-inside at-first)) (inside (at-inside at-first)) (opens at-first) (east at-first) (first at-first) (top at-first .args .n) (top at-first .args .table .now) (top at-first .pre .1 .0) (top at-first .pre .1 .1) _ _ (c .lower .ensures) counted
 
-closing-add-m : (t : ℕ) → closing-lts.Need-add-m (
-  read-below t,
-  read.Post,
-  lower-reads.Asked,
-  lower-reads.Learnt,
-) (closing-at t) closing.Post
-closing-add-m t c =
-    let if1 = c .before .before .before .before .before .before .before .before .before .before .before .before .before .before .before .if1 in
-    let if3 = c .before .before .before .before .before .before .before .before .before .if3 in
-    let args = c .before .before .before .before .before .before .before .before .before .before .before .before .before .before .before .before .before .before .args in
-    let pre = c .before .before .before .before .before .before .before .before .before .before .before .before .before .before .before .before .before .before .pre in
-    let read = c .before .before .before .before .before .before .before .before .before .before .before .before .before .read in
-    let if2 = c .before .before .before .before .before .before .before .before .before .before .before .if2 in
-    let if4 = c .before .before .before .before .before .before .if4 in
-    let read2 = c .before .before .before .read2 in
-    let inside = part-good (read .result .good) (args .room - 1) (args .s .now) (length (args .s .now) - 1) (read .result .at) (read .result .size) (read .result .number) (if2 .left) (read .ensures) in
-    let first = part-good (read2 .result .good) (args .room - 1 - read .result .size) (args .s .now) (read .result .at - 1) (read2 .result .at) (read2 .result .size) (read2 .result .number) (c .before .if5 .left) (read2 .ensures) in
-    record { fits = both-fits _ _ _ _ (both-small (args .room) (args .s .now) (pre .1 .2) (pre .1 .3) (not-none _ (if1 .left)) inside (not-none _ (if3 .left)) (if4 .left) first) (pre .1 .1) (pre .1 .0 .small) .0 }
+  closing-sub-l : Closing closing-lts.Need-sub-l
+  closing-sub-l c = c .before .before .pre .1 .2
 
-closing-lower-requires : (t : ℕ) → closing-lts.Need-lower-requires (
-  read-below t,
-  read.Post,
-  lower-reads.Asked,
-  lower-reads.Learnt,
-) (closing-at t) closing.Post
-closing-lower-requires t c κs =
-    let if1 = c .before .before .before .before .before .before .before .before .before .before .before .before .before .before .before .if1 in
-    let if3 = c .before .before .before .before .before .before .before .before .before .if3 in
-    let pre = c .before .before .before .before .before .before .before .before .before .before .before .before .before .before .before .before .before .before .pre in
-    let args = c .before .before .before .before .before .before .before .before .before .before .before .before .before .before .before .before .before .before .args in
-    let read = c .before .before .before .before .before .before .before .before .before .before .before .before .before .read in
-    let if2 = c .before .before .before .before .before .before .before .before .before .before .before .if2 in
-    let if4 = c .before .before .before .before .before .before .if4 in
-    let read2 = c .before .before .before .read2 in
-    let inside = part-good (read .result .good) (args .room - 1) (args .s .now) (length (args .s .now) - 1) (read .result .at) (read .result .size) (read .result .number) (if2 .left) (read .ensures) in
-    let first = part-good (read2 .result .good) (args .room - 1 - read .result .size) (args .s .now) (read .result .at - 1) (read2 .result .at) (read2 .result .size) (read2 .result .number) (c .before .if5 .left) (read2 .ensures) in
-    (pre .1 .0, both-less _ _ _ _ (both-small (args .room) (args .s .now) (pre .1 .2) (pre .1 .3) (not-none _ (if1 .left)) inside (not-none _ (if3 .left)) (if4 .left) first) (pre .1 .1), le-more _ _)
+  closing-returns : Closing closing-lts.Need-returns
+  closing-returns c =
+      let at = c .before .before .before in
+      no-room (at .args .room) (at .args .s .now) (at .pre .1 .2) (at .pre .1 .3) (c .if1 .taken)
 
-closing-mul-r : (t : ℕ) → closing-lts.Need-mul-r (
-  read-below t,
-  read.Post,
-  lower-reads.Asked,
-  lower-reads.Learnt,
-) (closing-at t) closing.Post
-closing-mul-r t c =
-    let if1 = c .before .before .before .before .before .before .before .before .before .before .before .before .before .before .before .before .if1 in
-    let if3 = c .before .before .before .before .before .before .before .before .before .before .if3 in
-    let args = c .before .before .before .before .before .before .before .before .before .before .before .before .before .before .before .before .before .before .before .args in
-    let pre = c .before .before .before .before .before .before .before .before .before .before .before .before .before .before .before .before .before .before .before .pre in
-    let read = c .before .before .before .before .before .before .before .before .before .before .before .before .before .before .read in
-    let if2 = c .before .before .before .before .before .before .before .before .before .before .before .before .if2 in
-    let if4 = c .before .before .before .before .before .before .before .if4 in
-    let read2 = c .before .before .before .before .read2 in
-    let inside = part-good (read .result .good) (args .room - 1) (args .s .now) (length (args .s .now) - 1) (read .result .at) (read .result .size) (read .result .number) (if2 .left) (read .ensures) in
-    let first = part-good (read2 .result .good) (args .room - 1 - read .result .size) (args .s .now) (read .result .at - 1) (read2 .result .at) (read2 .result .size) (read2 .result .number) (c .before .before .if5 .left) (read2 .ensures) in
-    record { fits = byte-fits _ _ (both-le _ _ _ _ (both-small (args .room) (args .s .now) (pre .1 .2) (pre .1 .3) (not-none _ (if1 .left)) inside (not-none _ (if3 .left)) (if4 .left) first) (pre .1 .1)) (pre .1 .0 .small) }
+  closing-sub-read : Closing closing-lts.Need-sub-read
+  closing-sub-read c = zero-le
 
-closing-shared-slice-read-r : (t : ℕ) → closing-lts.Need-shared-slice-read-r (
-  read-below t,
-  read.Post,
-  lower-reads.Asked,
-  lower-reads.Learnt,
-) (closing-at t) closing.Post
-closing-shared-slice-read-r t c =
-    let if1 = c .before .before .before .before .before .before .before .before .before .before .before .before .before .before .before .before .before .if1 in
-    let if3 = c .before .before .before .before .before .before .before .before .before .before .before .if3 in
-    let args = c .before .before .before .before .before .before .before .before .before .before .before .before .before .before .before .before .before .before .before .before .args in
-    let pre = c .before .before .before .before .before .before .before .before .before .before .before .before .before .before .before .before .before .before .before .before .pre in
-    let read = c .before .before .before .before .before .before .before .before .before .before .before .before .before .before .before .read in
-    let if2 = c .before .before .before .before .before .before .before .before .before .before .before .before .before .if2 in
-    let if4 = c .before .before .before .before .before .before .before .before .if4 in
-    let read2 = c .before .before .before .before .before .read2 in
-    let inside = part-good (read .result .good) (args .room - 1) (args .s .now) (length (args .s .now) - 1) (read .result .at) (read .result .size) (read .result .number) (if2 .left) (read .ensures) in
-    let first = part-good (read2 .result .good) (args .room - 1 - read .result .size) (args .s .now) (read .result .at - 1) (read2 .result .at) (read2 .result .size) (read2 .result .number) (c .before .before .before .if5 .left) (read2 .ensures) in
-    lt-of-le-of-lt (both-le _ _ _ _ (both-small (args .room) (args .s .now) (pre .1 .2) (pre .1 .3) (not-none _ (if1 .left)) inside (not-none _ (if3 .left)) (if4 .left) first) (pre .1 .1)) (pre .1 .0 .long)
+  closing-part-read-start : Closing closing-lts.Need-part-read-start
+  closing-part-read-start c = zero-le
 
-closing-mul-r-2 : (t : ℕ) → closing-lts.Need-mul-r-2 (
-  read-below t,
-  read.Post,
-  lower-reads.Asked,
-  lower-reads.Learnt,
-) (closing-at t) closing.Post
-closing-mul-r-2 t c =
-    let if1 = c .before .before .before .before .before .before .before .before .before .before .before .before .before .before .before .before .before .before .if1 in
-    let if3 = c .before .before .before .before .before .before .before .before .before .before .before .before .if3 in
-    let args = c .before .before .before .before .before .before .before .before .before .before .before .before .before .before .before .before .before .before .before .before .before .args in
-    let pre = c .before .before .before .before .before .before .before .before .before .before .before .before .before .before .before .before .before .before .before .before .before .pre in
-    let read = c .before .before .before .before .before .before .before .before .before .before .before .before .before .before .before .before .read in
-    let if2 = c .before .before .before .before .before .before .before .before .before .before .before .before .before .before .if2 in
-    let if4 = c .before .before .before .before .before .before .before .before .before .if4 in
-    let read2 = c .before .before .before .before .before .before .read2 in
-    let if5 = c .before .before .before .before .if5 in
-    let lower = c .before .before .lower in
-    let inside = part-good (read .result .good) (args .room - 1) (args .s .now) (length (args .s .now) - 1) (read .result .at) (read .result .size) (read .result .number) (if2 .left) (read .ensures) in
-    let first = part-good (read2 .result .good) (args .room - 1 - read .result .size) (args .s .now) (read .result .at - 1) (read2 .result .at) (read2 .result .size) (read2 .result .number) (if5 .left) (read2 .ensures) in
-    record { fits = parts-fit _ _ _ (arch-fits (args .room) (args .s .now) (pre .1 .2) (pre .1 .3) (not-none _ (if1 .left)) inside (not-none _ (if3 .left)) (if4 .left) first (args .n) (args .table .now) (pre .1 .0) (pre .1 .1) (lower .result) (getD (args .table .now) (read2 .result .size) 0) (lower .ensures) (pre .1 .0 .full (read2 .result .size) (both-le _ _ _ _ (both-small (args .room) (args .s .now) (pre .1 .2) (pre .1 .3) (not-none _ (if1 .left)) inside (not-none _ (if3 .left)) (if4 .left) first) (pre .1 .1)))) .0 }
+  closing-part-read-end : Closing closing-lts.Need-part-read-end
+  closing-part-read-end c = sub-le _ 1
 
-closing-add-r : (t : ℕ) → closing-lts.Need-add-r (
-  read-below t,
-  read.Post,
-  lower-reads.Asked,
-  lower-reads.Learnt,
-) (closing-at t) closing.Post
-closing-add-r t c =
-    let if1 = c .before .before .before .before .before .before .before .before .before .before .before .before .before .before .before .before .before .before .before .if1 in
-    let if3 = c .before .before .before .before .before .before .before .before .before .before .before .before .before .if3 in
-    let args = c .before .before .before .before .before .before .before .before .before .before .before .before .before .before .before .before .before .before .before .before .before .before .args in
-    let pre = c .before .before .before .before .before .before .before .before .before .before .before .before .before .before .before .before .before .before .before .before .before .before .pre in
-    let read = c .before .before .before .before .before .before .before .before .before .before .before .before .before .before .before .before .before .read in
-    let if2 = c .before .before .before .before .before .before .before .before .before .before .before .before .before .before .before .if2 in
-    let if4 = c .before .before .before .before .before .before .before .before .before .before .if4 in
-    let read2 = c .before .before .before .before .before .before .before .read2 in
-    let if5 = c .before .before .before .before .before .if5 in
-    let lower = c .before .before .before .lower in
-    let inside = part-good (read .result .good) (args .room - 1) (args .s .now) (length (args .s .now) - 1) (read .result .at) (read .result .size) (read .result .number) (if2 .left) (read .ensures) in
-    let first = part-good (read2 .result .good) (args .room - 1 - read .result .size) (args .s .now) (read .result .at - 1) (read2 .result .at) (read2 .result .size) (read2 .result .number) (if5 .left) (read2 .ensures) in
-    record { fits = parts-fit _ _ _ (arch-fits (args .room) (args .s .now) (pre .1 .2) (pre .1 .3) (not-none _ (if1 .left)) inside (not-none _ (if3 .left)) (if4 .left) first (args .n) (args .table .now) (pre .1 .0) (pre .1 .1) (lower .result) (getD (args .table .now) (read2 .result .size) 0) (lower .ensures) (pre .1 .0 .full (read2 .result .size) (both-le _ _ _ _ (both-small (args .room) (args .s .now) (pre .1 .2) (pre .1 .3) (not-none _ (if1 .left)) inside (not-none _ (if3 .left)) (if4 .left) first) (pre .1 .1)))) .1 }
+  closing-sub-read-2 : Closing closing-lts.Need-sub-read-2
+  closing-sub-read-2 c = pos-of-ne-zero (c .before .if1 .left)
 
-closing-add-r-2 : (t : ℕ) → closing-lts.Need-add-r-2 (
-  read-below t,
-  read.Post,
-  lower-reads.Asked,
-  lower-reads.Learnt,
-) (closing-at t) closing.Post
-closing-add-r-2 t c =
-    let if1 = c .before .before .before .before .before .before .before .before .before .before .before .before .before .before .before .before .before .before .before .if1 in
-    let if3 = c .before .before .before .before .before .before .before .before .before .before .before .before .before .if3 in
-    let args = c .before .before .before .before .before .before .before .before .before .before .before .before .before .before .before .before .before .before .before .before .before .before .args in
-    let pre = c .before .before .before .before .before .before .before .before .before .before .before .before .before .before .before .before .before .before .before .before .before .before .pre in
-    let read = c .before .before .before .before .before .before .before .before .before .before .before .before .before .before .before .before .before .read in
-    let if2 = c .before .before .before .before .before .before .before .before .before .before .before .before .before .before .before .if2 in
-    let if4 = c .before .before .before .before .before .before .before .before .before .before .if4 in
-    let read2 = c .before .before .before .before .before .before .before .read2 in
-    let if5 = c .before .before .before .before .before .if5 in
-    let lower = c .before .before .before .lower in
-    let inside = part-good (read .result .good) (args .room - 1) (args .s .now) (length (args .s .now) - 1) (read .result .at) (read .result .size) (read .result .number) (if2 .left) (read .ensures) in
-    let first = part-good (read2 .result .good) (args .room - 1 - read .result .size) (args .s .now) (read .result .at - 1) (read2 .result .at) (read2 .result .size) (read2 .result .number) (if5 .left) (read2 .ensures) in
-    record { fits = arch-fits (args .room) (args .s .now) (pre .1 .2) (pre .1 .3) (not-none _ (if1 .left)) inside (not-none _ (if3 .left)) (if4 .left) first (args .n) (args .table .now) (pre .1 .0) (pre .1 .1) (lower .result) (getD (args .table .now) (read2 .result .size) 0) (lower .ensures) (pre .1 .0 .full (read2 .result .size) (both-le _ _ _ _ (both-small (args .room) (args .s .now) (pre .1 .2) (pre .1 .3) (not-none _ (if1 .left)) inside (not-none _ (if3 .left)) (if4 .left) first) (pre .1 .1))) }
+  closing-read-requires : Closing closing-lts.Need-read-requires
+  closing-read-requires c κs =
+      let pre = c .before .before .before .before .pre in
+      (falls-less _ _ _ (pre .0) (one-less _ (pos-of-ne-zero (c .before .if1 .left))), (pre .1 .0, le-trans (sub-le _ 1) (pre .1 .1)))
 
-closing-add-t18 : (t : ℕ) → closing-lts.Need-add-t18 (
-  read-below t,
-  read.Post,
-  lower-reads.Asked,
-  lower-reads.Learnt,
-) (closing-at t) closing.Post
-closing-add-t18 t c =
-    let if1 = c .before .before .before .before .before .before .before .before .before .before .before .before .before .before .before .before .before .before .before .if1 in
-    let if3 = c .before .before .before .before .before .before .before .before .before .before .before .before .before .if3 in
-    let args = c .before .before .before .before .before .before .before .before .before .before .before .before .before .before .before .before .before .before .before .before .before .before .args in
-    let pre = c .before .before .before .before .before .before .before .before .before .before .before .before .before .before .before .before .before .before .before .before .before .before .pre in
-    let read = c .before .before .before .before .before .before .before .before .before .before .before .before .before .before .before .before .before .read in
-    let if2 = c .before .before .before .before .before .before .before .before .before .before .before .before .before .before .before .if2 in
-    let if4 = c .before .before .before .before .before .before .before .before .before .before .if4 in
-    let read2 = c .before .before .before .before .before .before .before .read2 in
-    let inside = part-good (read .result .good) (args .room - 1) (args .s .now) (length (args .s .now) - 1) (read .result .at) (read .result .size) (read .result .number) (if2 .left) (read .ensures) in
-    let first = part-good (read2 .result .good) (args .room - 1 - read .result .size) (args .s .now) (read .result .at - 1) (read2 .result .at) (read2 .result .size) (read2 .result .number) (c .before .before .before .before .before .if5 .left) (read2 .ensures) in
-    record { fits = both-fits _ _ _ _ (both-small (args .room) (args .s .now) (pre .1 .2) (pre .1 .3) (not-none _ (if1 .left)) inside (not-none _ (if3 .left)) (if4 .left) first) (pre .1 .1) (pre .1 .0 .small) .1 }
+  closing-returns-2 : Closing closing-lts.Need-returns-2
+  closing-returns-2 c =
+      let at = c .before .before .before .before .before .before .before in
+      let got = c .before .before .read in
+      no-inside (at .args .room) (at .args .s .now) (at .pre .1 .2) (at .pre .1 .3) (pos-of-ne-zero (c .before .before .before .before .if1 .left)) (part-bad (got .result .good) _ (at .args .s .now) (length (at .args .s .now) - 1) _ _ _ (c .if2 .taken) (got .ensures))
 
-closing-returns-6 : (t : ℕ) → closing-lts.Need-returns-6 (
-  read-below t,
-  read.Post,
-  lower-reads.Asked,
-  lower-reads.Learnt,
-) (closing-at t) closing.Post
-closing-returns-6 t c =
-    let if1 = c .before .before .before .before .before .before .before .before .before .before .before .before .before .before .before .before .before .before .before .if1 in
-    let if3 = c .before .before .before .before .before .before .before .before .before .before .before .before .before .if3 in
-    let args = c .before .before .before .before .before .before .before .before .before .before .before .before .before .before .before .before .before .before .before .before .before .before .args in
-    let pre = c .before .before .before .before .before .before .before .before .before .before .before .before .before .before .before .before .before .before .before .before .before .before .pre in
-    let read = c .before .before .before .before .before .before .before .before .before .before .before .before .before .before .before .before .before .read in
-    let if2 = c .before .before .before .before .before .before .before .before .before .before .before .before .before .before .before .if2 in
-    let if4 = c .before .before .before .before .before .before .before .before .before .before .if4 in
-    let read2 = c .before .before .before .before .before .before .before .read2 in
-    let if5 = c .before .before .before .before .before .if5 in
-    let lower = c .before .before .before .lower in
-    let inside = part-good (read .result .good) (args .room - 1) (args .s .now) (length (args .s .now) - 1) (read .result .at) (read .result .size) (read .result .number) (if2 .left) (read .ensures) in
-    let first = part-good (read2 .result .good) (args .room - 1 - read .result .size) (args .s .now) (read .result .at - 1) (read2 .result .at) (read2 .result .size) (read2 .result .number) (if5 .left) (read2 .ensures) in
-    ok-arch (args .room) (args .s .now) (pre .1 .2) (pre .1 .3) (not-none _ (if1 .left)) inside (not-none _ (if3 .left)) (if4 .left) first (lower .result) (getD (args .table .now) (read2 .result .size) 0) (lower .ensures) (pre .1 .0 .full (read2 .result .size) (both-le _ _ _ _ (both-small (args .room) (args .s .now) (pre .1 .2) (pre .1 .3) (not-none _ (if1 .left)) inside (not-none _ (if3 .left)) (if4 .left) first) (pre .1 .1)))
+  closing-returns-3 : Closing closing-lts.Need-returns-3
+  closing-returns-3 c =
+      let at = c .before .before in
+      no-start (start at .args .room) (s at) (start at .pre .1 .2) (start at .pre .1 .3) (some at) (inside at) (c .if3 .taken)
 
-read-returns :
-    (t : ℕ) → read-lts.Need-returns (closing-below t, closing.Post) (read-at t) read.Post
-read-returns t c =
-    let args = c .before .before .before .args in
-    ok-none (args .room) (args .s .now) (c .if1 .taken)
+  closing-sub-f : Closing closing-lts.Need-sub-f
+  closing-sub-f c = pos-of-ne-zero (c .before .if3 .left)
 
-read-sub-l : (t : ℕ) → read-lts.Need-sub-l (closing-below t, closing.Post) (read-at t) read.Post
-read-sub-l t c =
-    not-none _ (c .if1 .left)
+  closing-shared-slice-read-if4 : Closing closing-lts.Need-shared-slice-read-if4
+  closing-shared-slice-read-if4 c =
+      let at = c .before .before .before .before in
+      back-less _ _ (start at .pre .1 .2) (within at)
 
-read-shared-slice-read-if2 : (t : ℕ) → read-lts.Need-shared-slice-read-if2 (
-  closing-below t,
-  closing.Post,
-) (read-at t) read.Post
-read-shared-slice-read-if2 t c =
-    one-less _ (not-none _ (c .before .if1 .left))
+  closing-returns-4 : Closing closing-lts.Need-returns-4
+  closing-returns-4 c =
+      let at = c .before .before .before .before .before in
+      no-east (start at .args .room) (s at) (start at .pre .1 .2) (start at .pre .1 .3) (some at) (inside at) (pos-of-ne-zero (c .before .before .before .if3 .left)) (c .if4 .taken)
 
-read-returns-2 :
-    (t : ℕ) → read-lts.Need-returns-2 (closing-below t, closing.Post) (read-at t) read.Post
-read-returns-2 t c =
-    let args = c .before .before .before .before .before .args in
-    ok-end (args .room) (args .s .now) (c .if2 .taken)
+  closing-sub-read-3 : Closing closing-lts.Need-sub-read-3
+  closing-sub-read-3 c = zero-le
 
-read-closing-requires :
-    (t : ℕ) → read-lts.Need-closing-requires (closing-below t, closing.Post) (read-at t) read.Post
-read-closing-requires t c κs =
-    let pre = c .before .before .before .before .before .pre in
-    (falls-other _ _ (pre .0), (pre .1 .0, pre .1 .1, not-none _ (c .before .before .if1 .left), c .if2 .left))
+  closing-part-read-start-2 : Closing closing-lts.Need-part-read-start-2
+  closing-part-read-start-2 c = zero-le
 
-read-returns-3 :
-    (t : ℕ) → read-lts.Need-returns-3 (closing-below t, closing.Post) (read-at t) read.Post
-read-returns-3 t c =
-    c .closing .ensures
+  closing-part-read-end-2 : Closing closing-lts.Need-part-read-end-2
+  closing-part-read-end-2 c = back-le _ _ (within (c .before .before .before .before .before))
+
+  closing-sub-read-4 : Closing closing-lts.Need-sub-read-4
+  closing-sub-read-4 c = some (c .before .before .before .before .before .before)
+
+  closing-sub-read-5 : Closing closing-lts.Need-sub-read-5
+  closing-sub-read-5 c = inside (c .before .before .before .before .before .before .before) .small
+
+  closing-read-requires-2 : Closing closing-lts.Need-read-requires-2
+  closing-read-requires-2 c κs =
+      let at = c .before .before .before .before .before .before .before in
+      (falls-less _ _ _ (start at .pre .0) (rest-less _ _ (some at)), (start at .pre .1 .0, rest-le _ _ _ (start at .pre .1 .1)))
+
+  closing-returns-5 : Closing closing-lts.Need-returns-5
+  closing-returns-5 c =
+      let at = c .before .before .before .before .before .before .before .before .before .before in
+      let got = c .before .before .read2 in
+      no-first (start at .args .room) (s at) (start at .pre .1 .2) (start at .pre .1 .3) (some at) (inside at) (pos-of-ne-zero (c .before .before .before .before .before .before .before .before .if3 .left)) (c .before .before .before .before .before .if4 .left) (part-bad (got .result .good) _ (s at) (at .before .before .read .result .at - 1) _ _ _ (c .if5 .taken) (got .ensures))
+
+  closing-add-m : Closing closing-lts.Need-add-m
+  closing-add-m c =
+      let at = c .before in
+      record { fits = both-fits _ _ _ _ (both at) (top at .pre .1 .1) (top at .pre .1 .0 .small) .0 }
+
+  closing-lower-requires : Closing closing-lts.Need-lower-requires
+  closing-lower-requires c κs =
+      let at = c .before in
+      (top at .pre .1 .0, both-less _ _ _ _ (both at) (top at .pre .1 .1), le-add-right _ _)
+
+  closing-mul-r : Closing closing-lts.Need-mul-r
+  closing-mul-r c =
+      let at = c .before .before in
+      record { fits = byte-fits _ _ (listed at) (top at .pre .1 .0 .small) }
+
+  closing-shared-slice-read-r : Closing closing-lts.Need-shared-slice-read-r
+  closing-shared-slice-read-r c =
+      let at = c .before .before .before in
+      lt-of-le-of-lt (listed at) (top at .pre .1 .0 .long)
+
+  closing-mul-r-2 : Closing closing-lts.Need-mul-r-2
+  closing-mul-r-2 c = record { fits = parts-fit _ _ _ (fits (c .before .before)) .0 }
+
+  closing-add-r : Closing closing-lts.Need-add-r
+  closing-add-r c = record { fits = parts-fit _ _ _ (fits (c .before .before .before)) .1 }
+
+  closing-add-r-2 : Closing closing-lts.Need-add-r-2
+  closing-add-r-2 c = record { fits = fits (c .before .before .before) }
+
+  closing-add-t18 : Closing closing-lts.Need-add-t18
+  closing-add-t18 c =
+      let at = c .before .before .before .before .before in
+      record { fits = both-fits _ _ _ _ (both at) (top at .pre .1 .1) (top at .pre .1 .0 .small) .1 }
+
+  closing-returns-6 : Closing closing-lts.Need-returns-6
+  closing-returns-6 c =
+      let low = c .before .before .before in
+      let at = at-first low in
+      ok-arch (top at .args .room) (s (at-inside at)) (top at .pre .1 .2) (top at .pre .1 .3) (some (at-inside at)) (inside (at-inside at)) (opens at) (east at) (first at) _ _ (low .lower .ensures) (counted low)
+
+  closing-met : {M : Type 1} → closing-lts.Closed parts (closing-at t) closing.Post M
+  closing-met =
+      closing-lts.spec parts (closing-at t) closing.Post closing-sub-l closing-returns closing-sub-read closing-part-read-start
+      closing-part-read-end closing-sub-read-2 closing-read-requires closing-returns-2 closing-returns-3 closing-sub-f
+      closing-shared-slice-read-if4 closing-returns-4 closing-sub-read-3 closing-part-read-start-2 closing-part-read-end-2
+      closing-sub-read-4 closing-sub-read-5 closing-read-requires-2 closing-returns-5 closing-add-m closing-lower-requires
+      closing-mul-r closing-shared-slice-read-r closing-mul-r-2 closing-add-r closing-add-r-2 closing-add-t18 closing-returns-6
+
+  -- what `read` calls
+  abbrev last : read-lts.Claims
+  last = (and 2 closing-kinds.ps (falls 2 closing-kinds.ps _<_ μ-closing t) closing.Pre, closing.Post)
+
+  -- a fact that `read` asks for
+  abbrev Reading : (read-lts.Claims → In 2 read-kinds.ps → Out 2 read-kinds.ps read-kinds.r → Type 0) → Type 0
+  Reading At = At last (read-at t) read.Post
+
+  read-returns : Reading read-lts.Need-returns
+  read-returns c = ok-none _ (c .before .before .before .args .s .now) (c .if1 .taken)
+
+  read-sub-l : Reading read-lts.Need-sub-l
+  read-sub-l c = pos-of-ne-zero (c .if1 .left)
+
+  read-shared-slice-read-if2 : Reading read-lts.Need-shared-slice-read-if2
+  read-shared-slice-read-if2 c = one-less _ (pos-of-ne-zero (c .before .if1 .left))
+
+  read-returns-2 : Reading read-lts.Need-returns-2
+  read-returns-2 c = ok-end _ (c .before .before .before .before .before .args .s .now) (c .if2 .taken)
+
+  read-closing-requires : Reading read-lts.Need-closing-requires
+  read-closing-requires c κs =
+      let pre = c .before .before .before .before .before .pre in
+      (falls-other _ _ (pre .0), (pre .1 .0, pre .1 .1, pos-of-ne-zero (c .before .before .if1 .left), c .if2 .left))
+
+  read-returns-3 : Reading read-lts.Need-returns-3
+  read-returns-3 c = c .closing .ensures
+
+  read-met : {M : Type 1} → read-lts.Closed last (read-at t) read.Post M
+  read-met =
+      read-lts.spec last (read-at t) read.Post read-returns read-sub-l read-shared-slice-read-if2 read-returns-2 read-closing-requires
+      read-returns-3
 
 pub +closing+read-spec : {M : Type 1} → statement M
-+closing+read-spec = close μ-closing μ-read (λ t. closing-lts.spec (
-  read-below t,
-  read.Post,
-  lower-reads.Asked,
-  lower-reads.Learnt,
-)
-    (closing-at t)
-    closing.Post
-    (closing-sub-l t)
-    (closing-returns t)
-    (closing-sub-read t)
-    (closing-part-read-start t)
-    (closing-part-read-end t)
-    (closing-sub-read-2 t)
-    (closing-read-requires t)
-    (closing-returns-2 t)
-    (closing-returns-3 t)
-    (closing-sub-f t)
-    (closing-shared-slice-read-if4 t)
-    (closing-returns-4 t)
-    (closing-sub-read-3 t)
-    (closing-part-read-start-2 t)
-    (closing-part-read-end-2 t)
-    (closing-sub-read-4 t)
-    (closing-sub-read-5 t)
-    (closing-read-requires-2 t)
-    (closing-returns-5 t)
-    (closing-add-m t)
-    (closing-lower-requires t)
-    (closing-mul-r t)
-    (closing-shared-slice-read-r t)
-    (closing-mul-r-2 t)
-    (closing-add-r t)
-    (closing-add-r-2 t)
-    (closing-add-t18 t)
-    (closing-returns-6 t))
-    λ t. read-lts.spec
-    (closing-below t, closing.Post)
-    (read-at t)
-    read.Post
-    (read-returns t)
-    (read-sub-l t)
-    (read-shared-slice-read-if2 t)
-    (read-returns-2 t)
-    (read-closing-requires t)
-    (read-returns-3 t)
++closing+read-spec = close μ-closing μ-read (λ t. closing-met t) λ t. read-met t

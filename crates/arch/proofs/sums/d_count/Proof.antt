@@ -1,4 +1,4 @@
--- By the test on d.
+-- `arch::sums::d_count` meets its contract: by the test on d. Assumes nothing.
 use mathlib.Core.Path.{_∙_}
 use Rattle.arch.proofs.Tables.{ifD-is}
 use borrow.Author.Needs.{needs}

@@ -1,4 +1,4 @@
--- What is below c is its own remainder.
+-- `arch::sums::left_over` meets its contract: what is below c is its own remainder. Assumes nothing.
 use mathlib.Core.Path.{sym}
 use native.Mathlib.Nat.{mod-eq-of-lt}
 use borrow.Author.Needs.{needs}

@@ -1,4 +1,4 @@
--- What is below c holds c no time.
+-- `arch::sums::times` meets its contract: what is below c holds c no time. Assumes nothing.
 use mathlib.Core.Path.{sym}
 use native.Mathlib.Nat.{div-eq-of-lt}
 use borrow.Author.Needs.{needs}

@@ -1,7 +1,7 @@
 -- `grid::numbering::number_in` meets its contract: by the table's answer and the edges read. Assumes nothing.
 use mathlib.Core.Bool.{false}
 use Rattle.tables.proofs.Phases.{filled-over, filled-count, filled-full}
-use Rattle.tables.proofs.Tabled.{ranks-over, ranks-fit}
+use Rattle.tables.proofs.Counted.{ranks-over, ranks-fit}
 use borrow.Author.Needs.{needs}
 use Rattle.grid.proofs.numbering.number_in.Statement.{statement}
 use Rattle.grid.proofs.numbering.number_in.Tie as tie

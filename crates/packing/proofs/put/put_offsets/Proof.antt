@@ -3,6 +3,7 @@ use mathlib.Core.Path.{_≡_, refl, _∙_}
 use Prim.Native.Nat.{_-_, _≤_}
 use native.Mathlib.Omega.{arith}
 use lib.ListN.{length, take}
+use Rattle.rules.specs.Packs.{shortest}
 use Rattle.packing.specs.Packing.{pasted, offsetsOf}
 use Rattle.packing.proofs.Pastes.{offsets-none, offsets-next, offsets-all}
 use borrow.Author.Needs.{needs}
@@ -10,7 +11,7 @@ use Rattle.packing.proofs.put.put_offsets.Statement.{statement}
 use Rattle.packing.proofs.put.put_offsets.Tie as tie
 
 abbrev Inv-loop : tie.InvT-loop
-Inv-loop out₀ first ends i₀ out i = (i ≤ length ends) × (length out ≡ length out₀) × (out ≡ pasted out₀ 28 (offsetsOf first (take i ends)))
+Inv-loop out₀ first ends i₀ out i = (i ≤ length ends) × (length out ≡ length out₀) × (out ≡ pasted out₀ shortest (offsetsOf first (take i ends)))
 
 abbrev μ-loop : tie.MeasureT-loop
 μ-loop out₀ first ends i₀ out i = length ends - i

@@ -2,7 +2,7 @@
 use mathlib.Core.Bool.{true}
 use Rattle.rows.specs.Plains.{plainPlan}
 use Rattle.tables.proofs.Phases.{filled-over, filled-count, filled-full}
-use Rattle.tables.proofs.Tabled.{ranks-over, ranks-fit}
+use Rattle.tables.proofs.Counted.{ranks-over, ranks-fit}
 use borrow.Author.Needs.{needs}
 use Rattle.rows.proofs.numbering.number_in.Statement.{statement}
 use Rattle.rows.proofs.numbering.number_in.Tie as tie
