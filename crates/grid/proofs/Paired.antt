@@ -5,44 +5,36 @@
 --   shaped-as                the shape that it answers with is that of the block's job
 --   form-of, narrow-of       what a shape whose end can be reached has, and its plan
 --   numbers-as, builds-as    what its plan's table says is the job's
-use mathlib.Core.Path.{_≡_, refl, sym, ap, _∙_}
-use mathlib.Core.Bool.{Bool, true, false, _||_}
+use mathlib.Core.Path.{_≡_, sym, ap, _∙_}
+use mathlib.Core.Bool.{Bool, true, false}
 use mathlib.Core.List.{List}
 use Prim.Native.Nat.{ℕ, _≤_}
 use native.Mathlib.Omega.{arith}
-use borrow.Author.Tests.{eqb-true}
-use lib.Dec.{eqb}
-use Rattle.rules.specs.Blocks.{familyOf, square, paired}
+use Rattle.rules.specs.Blocks.{familyOf, paired}
 use Rattle.job.specs.declared.Built.{Built}
 use Rattle.job.specs.declared.Job.{Job}
 use Rattle.job.proofs.Standing.{Kept}
 use Rattle.lines.specs.declared.Ranked.{Ranked}
 use Rattle.tables.specs.declared.Plan.{Plan}
 use Rattle.tables.specs.declared.Shape.{Shape}
-use Rattle.tables.specs.Shapes.{Sound, ShapedFor, FormOf}
+use Rattle.tables.specs.Shapes.{Ranged, ShapedFor, FormOf}
 use Rattle.tables.specs.Calls.{Countable, NumbersAs, BuildsAs}
 use Rattle.tables.specs.Plans.{Narrow, PlanOf, NumbersFor, BuildsFor}
-use Rattle.tables.proofs.Counted.{sound-of, shaped-in, state-working, plan-numbers}
+use Rattle.tables.proofs.Counted.{shaped-in, state-working, plan-numbers}
+use Rattle.tables.proofs.Shaping.{stands-ranged}
 use Rattle.tables.proofs.Builds.{plan-builds}
 use Rattle.grid.specs.Calls.{ShapedAs}
 
 pub mine-by : (b : List ℕ) {f : ℕ} {t u : Bool} → f ≡ familyOf b → t ≡ paired f → t ≡ u → paired (familyOf b) ≡ u
 mine-by b e q r = ap paired (sym e) ∙ sym q ∙ r
 
-paired-is : (f : ℕ) → paired f ≡ true → (square f ≡ false) × (6 ≤ f)
-paired-is f = go (eqb f 6) refl
-  where
-    go : (t : Bool) → eqb f 6 ≡ t → (t || eqb f 7) ≡ true → (square f ≡ false) × (6 ≤ f)
-    go true e q = rw (eqb-true f 6 e) (refl, omega arith)
-    go false e q = rw (eqb-true f 7 q) (refl, omega arith)
-
 module _ (b : List ℕ) (j : Job) (k : Kept b j) (q : paired (familyOf b) ≡ true) where
-  pub shape-needs : Sound j × (6 ≤ j .family)
-  shape-needs = let d = paired-is (familyOf b) q in (sound-of b j k (d .0), omega (arith, d .1, k .family))
+  pub shape-needs : Ranged j × (paired (j .family) ≡ true)
+  shape-needs = let f : paired (j .family) ≡ true = ap paired (k .family) ∙ q in (stands-ranged (k .stands) f, f)
 
   pub shaped-as : {room : Bool} {s : Shape} → room ≡ true → ShapedFor j s → ShapedAs b room s
   shaped-as r w =
-      let h = shaped-in b j k (paired-is (familyOf b) q .0) w in
+      let h = shaped-in b j k w in
       record { shape = h .shape; ending = record { own = q; roomy = r; answer = h .answer } }
 
 module _ {s : Shape} (a : s .state ≡ 1 → ⊥) where
@@ -54,7 +46,7 @@ module _ {s : Shape} (a : s .state ≡ 1 → ⊥) where
     narrow-of k = omega (arith, po .ex-is, form-of k .1)
 
     pub numbers-as : (es : List (List ℕ)) (before after : List ℕ) (x : Ranked) → NumbersFor false p (s .sa) (s .sc) es before after x → NumbersAs s es before after x
-    numbers-as es before after x h J r g w = let k = state-working J s w a in plan-numbers J s r (k .fits) po (k .letters) es before after x h
+    numbers-as es before after x h J w = let k = state-working J s w a in plan-numbers J s (k .fits) po es before after x h
 
     pub builds-as : (ns steps ends : List ℕ) (x : Built) (t u : List ℕ) → BuildsFor false p (s .sa) (s .sc) ns steps ends t u x → BuildsAs s ns steps ends t u x
-    builds-as ns steps ends x t u h J r g w = let k = state-working J s w a in plan-builds J s r (k .fits) po (k .letters) ns steps ends x t u h
+    builds-as ns steps ends x t u h J w = let k = state-working J s w a in plan-builds J s (k .fits) po ns steps ends x t u h

@@ -17,7 +17,7 @@ use Rattle.tables.specs.declared.Plan.{Plan}
 use Rattle.tables.specs.Cells.{place, Run, Column}
 use Rattle.tables.specs.Table.{From, To}
 use Rattle.tables.specs.Plans.{strideFor, TableFor, SpansFor}
-use Rattle.tables.specs.Filling.{Before, After}
+use Rattle.tables.specs.Filling.{Unflagged, ColumnDone}
 use Rattle.tables.proofs.Laws.{mul-bound}
 use Rattle.tables.proofs.Walls.{span-low, span-high}
 use Rattle.tables.proofs.Columns.{run-of, column-table, most-small, empty-table, empty-small, pow-small}
@@ -50,7 +50,7 @@ early-4 = omega arith
 pub early-8 : 8 ^ 20 ≤ 2305843009213693951
 early-8 = omega arith
 
-module _ {p : Plan} {sa sc off : List ℕ} {val : List ℕ} {x : ℕ} (b : Before p sa sc off val x) where
+module _ {p : Plan} {sa sc off : List ℕ} {val : List ℕ} {x : ℕ} (b : Unflagged p sa sc off val x) where
   wide-enough : (x + 1) * strideFor p ≤ 98 * 2001
   wide-enough = mul-bound (x + 1) (strideFor p) 98 2001 (omega (arith, b .end, b .ready .sizes .ex-le)) (omega (arith, b .ready .sizes .m-le, b .ready .sizes .ey-le))
 
@@ -64,41 +64,41 @@ module _ {p : Plan} {sa sc off : List ℕ} {val : List ℕ} {x : ℕ} (b : Befor
   first8 = record { some = omega arith; most = omega arith; gone = λ i h q. absurd (omega arith) }
 
   module _ {starts stops : List ℕ} (sp : SpansFor p starts stops) where
-    step-low : From (p .f) (p .hi) (p .ex) (p .ey) x (getD starts x 0)
+    step-low : From (p .wall) (p .hi) (p .ex) (p .ey) x (getD starts x 0)
     step-low = span-low sp (b .start) (b .end)
 
-    step-high : To (p .f) (p .hi) (p .ey) x (getD stops x 0)
+    step-high : To (p .wall) (p .hi) (p .ey) x (getD stops x 0)
     step-high = span-high sp (b .start) (b .end)
 
-    pub step-fits : StepFits (p .m) (p .ey) x (getD starts x 0) (getD stops x 0)
+    pub step-fits : StepFits (p .deep) (p .ey) x (getD starts x 0) (getD stops x 0)
     step-fits =
-        fits-from (p .m) (p .ey) x (getD starts x 0) (getD stops x 0) (b .ready .sizes .m-le) (b .ready .sizes .ey-le) (omega (arith, b .end, sp .narrow))
+        fits-from (p .deep) (p .ey) x (getD starts x 0) (getD stops x 0) (b .ready .sizes .m-le) (b .ready .sizes .ey-le) (omega (arith, b .end, sp .narrow))
         (step-high .under) wide-enough
 
-    pub step-empty : getD stops x 0 ≤ getD starts x 0 → After p sa sc val x true
+    pub step-empty : getD stops x 0 ≤ getD starts x 0 → ColumnDone p sa sc val x true
     step-empty l = record {
       table = empty-table (b .ready .slopes) (b .ready .offs) val (b .table) (b .start) (b .end) (getD starts x 0) (getD stops x 0) step-low step-high l;
       small = λ _. empty-small (b .ready .slopes) (b .ready .offs) val (b .table) (b .start) (b .end) (getD starts x 0) (getD stops x 0) step-low step-high l (b .small);
     }
 
     module _ (lt : getD starts x 0 < getD stops x 0) {n : ℕ} (fi : First p sa n) where
-      pub run : Run n val sa off x (place (p .m) (p .ey) x (getD starts x 0)) (getD stops x 0 - getD starts x 0)
+      pub run : Run n val sa off x (place (p .deep) (p .ey) x (getD starts x 0)) (getD stops x 0 - getD starts x 0)
       run = run-of (b .ready .slopes) (b .ready .offs) val (b .table) (b .start) (b .end) n (fi .some) (fi .most) (fi .gone) (getD starts x 0) (getD stops x 0) step-low step-high lt (b .ready .room) (b .small)
 
-      pub run-inside : {l : ℕ} → l ≡ length val → place (p .m) (p .ey) x (getD starts x 0) + (getD stops x 0 - getD starts x 0) ≤ l
+      pub run-inside : {l : ℕ} → l ≡ length val → place (p .deep) (p .ey) x (getD starts x 0) + (getD stops x 0 - getD starts x 0) ≤ l
       run-inside e = omega (arith, run .inside)
 
-      module _ {val′ : List ℕ} (co : Column n val val′ sa off x (place (p .m) (p .ey) x (getD starts x 0)) (getD stops x 0 - getD starts x 0)) where
+      module _ {val′ : List ℕ} (co : Column n val val′ sa off x (place (p .deep) (p .ey) x (getD starts x 0)) (getD stops x 0 - getD starts x 0)) where
         summed : TableFor p sa sc val′ (x + 1)
         summed = column-table (b .ready .slopes) (b .ready .offs) val (b .table) (b .start) (b .end) (getD starts x 0) (getD stops x 0) step-low step-high n (fi .some) (fi .most) (fi .gone) lt val′ co
 
-        pub early : (top : ℕ) → n ^ top ≤ 2305843009213693951 → x ≤ top → After p sa sc val′ x true
+        pub early : (top : ℕ) → n ^ top ≤ 2305843009213693951 → x ≤ top → ColumnDone p sa sc val′ x true
         early top le l = record {
           table = summed;
           small = λ _. pow-small (b .ready .slopes) (b .ready .offs) val (b .table) (b .start) (b .end) n (fi .some) (fi .most) (fi .gone) top le l (b .small);
         }
 
-        pub seen : (r : Bool) → (r ≡ true → (i : ℕ) → i < getD stops x 0 - getD starts x 0 → getD val′ (place (p .m) (p .ey) x (getD starts x 0) + i) 0 ≤ 2305843009213693951) → After p sa sc val′ x r
+        pub seen : (r : Bool) → (r ≡ true → (i : ℕ) → i < getD stops x 0 - getD starts x 0 → getD val′ (place (p .deep) (p .ey) x (getD starts x 0) + i) 0 ≤ 2305843009213693951) → ColumnDone p sa sc val′ x r
         seen r all = record {
           table = summed;
           small = λ e. most-small (b .ready .slopes) (b .ready .offs) val (b .table) (b .start) (b .end) (getD starts x 0) (getD stops x 0) step-low step-high n (fi .some) (fi .most) (fi .gone) lt val′ co 2305843009213693951 (b .small) (all e) (omega arith);

@@ -3,34 +3,36 @@ ghost use mathlib.Core.Path.{_≡_};
 ghost use Prim.Native.Nat.{_+_, _*_, _≤_, _<_};
 ghost use lib.ListN.{length};
 ghost use Rattle.tables.specs.Form.{wall};
-ghost use Rattle.tables.specs.Table.{Fence, From, Roof, To, Spans};
-
-// The wall ROOF + g is a roof of slope g: no walk is above it. A lesser f is a fence of slope f: no walk is below it; 0 is no wall.
-pub(crate) const ROOF: usize = 16;
+ghost use Rattle.tables.specs.Table.{Bounded, Fence, From, Roof, To, Spans};
+use tables::Wall;
 
 // The lowest height of column x that a fence allows.
-fn fence_at(f: usize, x: usize) -> usize
-    requires { ⌜ (f ≤ 100) × (x ≤ 97) ⌝ }
+fn fence_at(f: Wall, x: usize) -> usize
+    requires { ⌜ Bounded f × (x ≤ 97) ⌝ }
     ensures { λ r. ⌜ Fence f x r ⌝ }
 {
-    if f < ROOF { f * x } else { 0 }
+    if f.roof {
+        return 0;
+    }
+    let rise = f.slope * x;
+    if rise < f.start { 0 } else { rise - f.start }
 }
 
 // The height y, or the highest of column x that a roof allows where that is lower.
-fn roof_at(f: usize, x: usize, y: usize) -> usize
-    requires { ⌜ (f ≤ 100) × (x ≤ 97) ⌝ }
+fn roof_at(f: Wall, x: usize, y: usize) -> usize
+    requires { ⌜ Bounded f × (x ≤ 97) ⌝ }
     ensures { λ r. ⌜ Roof f x y r ⌝ }
 {
-    if f < ROOF {
+    if !f.roof {
         return y;
     }
-    let roof = (f - ROOF) * x;
+    let roof = f.slope * x + f.start;
     if roof < y { roof } else { y }
 }
 
 // Whether the wall f lets a walk be at column x, height y.
-pub(crate) fn stays(f: usize, x: usize, y: usize) -> bool
-    requires { ⌜ (f ≤ 100) × (x ≤ 97) ⌝ }
+pub(crate) fn stays(f: Wall, x: usize, y: usize) -> bool
+    requires { ⌜ Bounded f × (x ≤ 97) ⌝ }
     ensures { λ r. ⌜ r ≡ wall f x y ⌝ }
 {
     if y < fence_at(f, x) {
@@ -54,8 +56,8 @@ fn reach_of(hi: usize, x: usize) -> usize
 }
 
 // The lowest height of column x that matters.
-pub(crate) fn from_at(f: usize, hi: usize, ex: usize, ey: usize, x: usize) -> usize
-    requires { ⌜ (f ≤ 100) × (hi ≤ 1000) × (ex ≤ 97) × (ey ≤ 1000) × (x ≤ ex) ⌝ }
+pub(crate) fn from_at(f: Wall, hi: usize, ex: usize, ey: usize, x: usize) -> usize
+    requires { ⌜ Bounded f × (hi ≤ 1000) × (ex ≤ 97) × (ey ≤ 1000) × (x ≤ ex) ⌝ }
     ensures { λ r. ⌜ From f hi ex ey x r ⌝ }
 {
     let reach = reach_of(hi, ex - x);
@@ -67,8 +69,8 @@ pub(crate) fn from_at(f: usize, hi: usize, ex: usize, ey: usize, x: usize) -> us
 }
 
 // Past the highest height of column x that matters.
-pub(crate) fn to_at(f: usize, hi: usize, ey: usize, x: usize) -> usize
-    requires { ⌜ (f ≤ 100) × (hi ≤ 1000) × (ey ≤ 1000) × (x ≤ 97) ⌝ }
+pub(crate) fn to_at(f: Wall, hi: usize, ey: usize, x: usize) -> usize
+    requires { ⌜ Bounded f × (hi ≤ 1000) × (ey ≤ 1000) × (x ≤ 97) ⌝ }
     ensures { λ r. ⌜ To f hi ey x r ⌝ }
 {
     let reach = roof_at(f, x, reach_of(hi, x));
@@ -79,12 +81,12 @@ pub(crate) fn to_at(f: usize, hi: usize, ey: usize, x: usize) -> usize
 pub(crate) fn spans(
     starts: &mut [usize; 33],
     stops: &mut [usize; 33],
-    f: usize,
+    f: Wall,
     hi: usize,
     ex: usize,
     ey: usize,
 )
-    requires { ⌜ (f ≤ 100) × (hi ≤ 1000) × (ex ≤ 32) × (ey ≤ 1000) ⌝ }
+    requires { ⌜ Bounded f × (hi ≤ 1000) × (ex ≤ 32) × (ey ≤ 1000) ⌝ }
     requires { ⌜ (ex < length (now starts)) × (ex < length (now stops)) ⌝ }
     ensures { λ _. ⌜ Spans f hi ex ey (now (starts .exit)) (now (stops .exit)) (ex + 1) ⌝ }
 {

@@ -9,11 +9,11 @@ use crate::plan::offsets;
 use crate::plan::plan_of;
 use crate::table::fill;
 use job::Counted;
-use tables::Answer;
 use tables::Plan;
 use tables::Shape;
+use tables::Tally;
 
-fn count_small(sa: &[usize; 8], sc: &[usize; 8], off: &[usize; 8], p: Plan, cells: usize) -> Answer
+fn count_small(sa: &[usize; 8], sc: &[usize; 8], off: &[usize; 8], p: Plan, cells: usize) -> Tally
     requires { ⌜ PreparedFor p (now sa) (now sc) (now off) cells × (cells ≤ 1280) × Narrow p ⌝ }
     ensures { λ r. ⌜ r ≡ countFor p (now (sa .entry)) (now (sc .entry)) ⌝ }
 {
@@ -29,7 +29,7 @@ fn count_small(sa: &[usize; 8], sc: &[usize; 8], off: &[usize; 8], p: Plan, cell
     fill(&mut val, sa, sc, off, p)
 }
 
-fn count_large(sa: &[usize; 8], sc: &[usize; 8], off: &[usize; 8], p: Plan) -> Answer
+fn count_large(sa: &[usize; 8], sc: &[usize; 8], off: &[usize; 8], p: Plan) -> Tally
     requires { ⌜ PreparedFor p (now sa) (now sc) (now off) 3712 × Narrow p ⌝ }
     ensures { λ r. ⌜ r ≡ countFor p (now (sa .entry)) (now (sc .entry)) ⌝ }
 {
@@ -38,7 +38,7 @@ fn count_large(sa: &[usize; 8], sc: &[usize; 8], off: &[usize; 8], p: Plan) -> A
 }
 
 // How many walks lead to the plan's end.
-fn count_walks(sa: &[usize; 8], sc: &[usize; 8], p: Plan) -> Answer
+fn count_walks(sa: &[usize; 8], sc: &[usize; 8], p: Plan) -> Tally
     requires { ⌜ Planned (now sa) (now sc) p × Narrow p ⌝ }
     ensures { λ r. ⌜ r ≡ countFor p (now (sa .entry)) (now (sc .entry)) ⌝ }
 {
@@ -63,7 +63,7 @@ pub(crate) fn count(s: Shape) -> Counted
     let sa = s.sa;
     let sc = s.sc;
     match count_walks(&sa, &sc, p) {
-        Answer::Count(c) => Counted::Count(c),
-        Answer::Over => Counted::Refused(4),
+        Tally::Count(c) => Counted::Count(c),
+        Tally::Over => Counted::Refused(4),
     }
 }

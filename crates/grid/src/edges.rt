@@ -4,12 +4,11 @@ ghost use mathlib.Core.Bool.{false};
 ghost use Prim.Native.Nat.{_≤_, _<_};
 ghost use lib.ListN.{length, drop};
 ghost use Rattle.howmany.specs.Sum.{sum};
-ghost use Rattle.tables.specs.Form.{via};
 ghost use Rattle.letters.specs.Letters.{glyphOf};
 ghost use Rattle.tables.specs.Cells.{sourceOf};
-ghost use Rattle.tables.specs.Edges.{Reads, Sought};
+ghost use Rattle.tables.specs.Edges.{broughtAt, Summed, Sought};
 ghost use Rattle.tables.specs.Plans.{walksFor, RankFor, edgeFor};
-ghost use Rattle.tables.specs.Filling.{Full};
+ghost use Rattle.tables.specs.Filling.{Readable};
 use crate::column::source;
 use crate::cone::stays;
 use job::Step;
@@ -25,22 +24,10 @@ fn glyph_of(i: usize) -> u8
     (i + Step::FIRST as usize) as u8
 }
 
-// What the first l steps bring to the cell at `at`, column x, height y.
-fn part_sum(
-    val: &[u64],
-    sa: &[usize; 8],
-    sc: &[usize; 8],
-    off: &[usize; 8],
-    k: usize,
-    f: usize,
-    x: usize,
-    y: usize,
-    at: usize,
-    l: usize,
-) -> u64
-    requires { ⌜ l ≤ k ⌝ }
-    requires { ⌜ Reads k f (now sa) (now sc) (now off) (now val) x y at ⌝ }
-    ensures { λ r. ⌜ r ≡ sum (via k f (now (sa .entry)) (now (sc .entry)) x y) l ⌝ }
+// What the first l steps bring to the cell at `at` of column x.
+fn part_sum(val: &[u64], sa: &[usize; 8], off: &[usize; 8], x: usize, at: usize, l: usize) -> u64
+    requires { ⌜ Summed l (now sa) (now off) (now val) x at ⌝ }
+    ensures { λ r. ⌜ r ≡ sum (broughtAt (now (sa .entry)) (now (off .entry)) (now (val .entry)) x at) l ⌝ }
 {
     let mut acc: u64 = 0;
     let mut i = 0;
@@ -62,18 +49,19 @@ pub(crate) fn read(
     p: Plan,
     e: &[u8],
 ) -> Rank
-    requires { ⌜ Full p (now sa) (now sc) (now off) (now val) ⌝ }
+    requires { ⌜ Readable p (now sa) (now sc) (now off) (now val) ⌝ }
     ensures { λ r. ⌜ RankFor false p (now (sa .entry)) (now (sc .entry)) (now (e .entry)) r ⌝ }
 {
+    let wall = p.wall;
     let mut acc: u64 = 0;
     let mut x = p.ex;
     let mut y = p.ey;
-    let mut at = (p.ex + 1) * (p.m + p.ey + 1) + p.m + p.ey;
+    let mut at = (p.ex + 1) * (p.deep + p.ey + 1) + p.deep + p.ey;
     let mut i = e.len();
     while 0 < i {
         i -= 1;
         let l = place_of(false, e[i]);
-        if !stays(p.f, x, y) {
+        if !stays(wall, x, y) {
             return Rank::NoEdge;
         }
         if p.k <= l {
@@ -87,7 +75,7 @@ pub(crate) fn read(
         if y < c {
             return Rank::NoEdge;
         }
-        acc += part_sum(val, sa, sc, off, p.k, p.f, x, y, at, l);
+        acc += part_sum(val, sa, off, x, at, l);
         x -= a;
         y -= c;
         at -= off[l];
@@ -105,23 +93,20 @@ pub(crate) struct Pick {
     pub(crate) from: usize,
 }
 
-// The last step of number r among the walks to column x, height y. It is one of the first k; the loop is over all eight, so that the
+// The last step of number r among the walks that the cell at `at` of column x counts. It is one of the first k; the loop is over all eight, so that the
 // compiler unrolls it.
 fn seek(
     val: &[u64],
     sa: &[usize; 8],
-    sc: &[usize; 8],
     off: &[usize; 8],
     k: usize,
-    f: usize,
     x: usize,
-    y: usize,
     at: usize,
     r: u64,
 ) -> Pick
-    requires { ⌜ Reads k f (now sa) (now sc) (now off) (now val) x y at ⌝ }
-    requires { ⌜ r < sum (via k f (now sa) (now sc) x y) k ⌝ }
-    ensures { λ q. ⌜ Sought (via k f (now (sa .entry)) (now (sc .entry)) x y) k r (q .letter) (q .rest) × (q .from ≡ sourceOf (now (sa .entry)) (now (off .entry)) x at (q .letter)) ⌝ }
+    requires { ⌜ Summed k (now sa) (now off) (now val) x at ⌝ }
+    requires { ⌜ r < sum (broughtAt (now sa) (now off) (now val) x at) k ⌝ }
+    ensures { λ q. ⌜ Sought (broughtAt (now (sa .entry)) (now (off .entry)) (now (val .entry)) x at) k r (q .letter) (q .rest) × (q .from ≡ sourceOf (now (sa .entry)) (now (off .entry)) x at (q .letter)) ⌝ }
 {
     let mut left = r;
     let mut i = 0;
@@ -155,16 +140,16 @@ pub(crate) fn spell(
     r: u64,
     buf: &mut [u8],
 ) -> usize
-    requires { ⌜ Full p (now sa) (now sc) (now off) (now val) × (r < walksFor p (now sa) (now sc)) × (length (now buf) ≡ 128) ⌝ }
+    requires { ⌜ Readable p (now sa) (now sc) (now off) (now val) × (r < walksFor p (now sa) (now sc)) × (length (now buf) ≡ 128) ⌝ }
     ensures { λ s. ⌜ (s ≤ 128) × (drop s (now (buf .exit)) ≡ edgeFor false p (now (sa .entry)) (now (sc .entry)) r) ⌝ }
 {
     let mut x = p.ex;
     let mut y = p.ey;
-    let mut at = (p.ex + 1) * (p.m + p.ey + 1) + p.m + p.ey;
+    let mut at = (p.ex + 1) * (p.deep + p.ey + 1) + p.deep + p.ey;
     let mut left = r;
     let mut s: usize = 128;
     while 0 < x {
-        let q = seek(val, sa, sc, off, p.k, p.f, x, y, at, left);
+        let q = seek(val, sa, off, p.k, x, at, left);
         let l = q.letter;
         left = q.rest;
         s -= 1;

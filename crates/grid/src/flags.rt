@@ -2,70 +2,64 @@
 ghost use mathlib.Core.Path.{_≡_};
 ghost use Prim.Native.Nat.{_<_};
 ghost use lib.ListN.{length};
-ghost use Rattle.howmany.specs.Sum.{sum};
-ghost use Rattle.tables.specs.Form.{via};
-ghost use Rattle.tables.specs.Cells.{capOf, cellAt, Put};
-ghost use Rattle.tables.specs.Filling.{Parts};
+ghost use Rattle.tables.specs.Cells.{cellAt, Put};
+ghost use Rattle.tables.specs.Filling.{Parts, Totals};
 use crate::column::source;
-use tables::Answer;
+use tables::Tally;
 
-pub(crate) fn cell(val: &[u64], ov: &[u8], i: usize) -> Answer
+pub(crate) fn cell(val: &[u64], ov: &[u8], i: usize) -> Tally
     requires { ⌜ (i < length (now val)) × (i < length (now ov)) ⌝ }
     ensures { λ r. ⌜ r ≡ cellAt (now (val .entry)) (now (ov .entry)) i ⌝ }
 {
     if ov[i] == 0 {
-        Answer::Count(val[i])
+        Tally::Count(val[i])
     } else {
-        Answer::Over
+        Tally::Over
     }
 }
 
 // Cell i says r.
-pub(crate) fn put(val: &mut [u64], ov: &mut [u8], i: usize, r: Answer)
+pub(crate) fn put(val: &mut [u64], ov: &mut [u8], i: usize, r: Tally)
     requires { ⌜ (i < length (now val)) × (i < length (now ov)) ⌝ }
     ensures { λ _. ⌜ Put (now (val .entry)) (now (ov .entry)) (now (val .exit)) (now (ov .exit)) i r ⌝ }
 {
     match r {
-        Answer::Count(v) => {
+        Tally::Count(v) => {
             val[i] = v;
             ov[i] = 0;
         }
-        Answer::Over => {
+        Tally::Over => {
             val[i] = 0;
             ov[i] = 1;
         }
     }
 }
 
-// What the eight steps bring to cell p, column x, height y.
+// What the eight steps bring to the cell at `at` of column x.
 pub(crate) fn total(
     val: &[u64],
     ov: &[u8],
     sa: &[usize; 8],
-    sc: &[usize; 8],
     off: &[usize; 8],
-    k: usize,
-    f: usize,
     x: usize,
-    y: usize,
-    p: usize,
-) -> Answer
-    requires { ⌜ Parts k f (now sa) (now sc) (now off) (now val) (now ov) x y p ⌝ }
-    ensures { λ r. ⌜ r ≡ capOf (sum (via k f (now (sa .entry)) (now (sc .entry)) x y) 8) ⌝ }
+    at: usize,
+) -> Tally
+    requires { ⌜ Parts (now sa) (now off) (now val) (now ov) x at ⌝ }
+    ensures { λ r. ⌜ Totals (now (sa .entry)) (now (off .entry)) (now (val .entry)) (now (ov .entry)) x at r ⌝ }
 {
     let mut acc: u64 = 0;
     let mut i = 0;
     while i < 8 {
-        let s = source(sa, off, i, x, p);
+        let s = source(sa, off, i, x, at);
         let a = cell(val, ov, s);
-        let Answer::Count(v) = a else {
-            return Answer::Over;
+        let Tally::Count(v) = a else {
+            return Tally::Over;
         };
         if 18446744073709551615 - acc < v {
-            return Answer::Over;
+            return Tally::Over;
         }
         acc += v;
         i += 1;
     }
-    Answer::Count(acc)
+    Tally::Count(acc)
 }

@@ -1,9 +1,12 @@
 // Steps in lower heights: how far they lie above the slope of the least steep step, or below that of the steepest.
 ghost use mathlib.Core.Bool.{true, false};
-ghost use Prim.Native.Nat.{_+_, _*_, _≤_};
+ghost use mathlib.Core.Path.{_≡_};
+ghost use Prim.Native.Nat.{_+_, _-_, _*_, _≤_};
 ghost use lib.Dec.{T};
+ghost use Rattle.tables.specs.Form.{Slight};
+ghost use Rattle.tables.specs.Shapes.{Fenced};
 ghost use Rattle.tables.specs.Heights.{Lifted, Beside, Height, Bounds, Heights, Turned};
-use crate::cone::ROOF;
+use tables::Wall;
 
 fn lesser(a: usize, b: usize) -> usize
     ensures { λ r. ⌜ (r ≤ a) × (r ≤ b) ⌝ }
@@ -108,16 +111,30 @@ pub(crate) fn heights(
     up
 }
 
-// The fence of slope f seen from the slope d: one that is below is none, and a mirrored one is a roof.
-pub(crate) fn wall(mirrored: bool, f: usize, d: usize) -> usize
-    requires { ⌜ (f ≤ 3) × (d ≤ 6) × (T mirrored → f ≤ d) ⌝ }
-    ensures { λ r. ⌜ (r ≤ 22) × Turned mirrored f d r ⌝ }
+fn less(a: usize, b: usize) -> usize
+    ensures { λ r. ⌜ r ≡ a - b ⌝ }
 {
-    if f == 0 {
-        return 0;
+    if a < b { 0 } else { a - b }
+}
+
+// The fence f seen from the slope d: one that is no steeper lies below every height, and a mirrored one is a roof.
+pub(crate) fn wall(mirrored: bool, f: Wall, d: usize) -> Wall
+    requires { ⌜ Fenced f × (d ≤ 6) × (T mirrored → f .slope ≤ d) ⌝ }
+    ensures { λ r. ⌜ Slight r × Turned mirrored f d r ⌝ }
+{
+    if f.slope == 0 {
+        return f;
     }
     if mirrored {
-        return ROOF + (d - f);
+        return Wall {
+            roof: true,
+            slope: d - f.slope,
+            start: f.start,
+        };
     }
-    if f < d { 0 } else { f - d }
+    Wall {
+        roof: false,
+        slope: less(f.slope, d),
+        start: f.start,
+    }
 }

@@ -4,6 +4,7 @@ ghost use Rattle.grid.specs.Calls.{KnownIs};
 use crate::shape::shape_of;
 use job::Job;
 use tables::Shape;
+use tables::Wall;
 
 // That the family isn't 6 or 7; that the lent slices have no room; a refusal number; or that the shape beside it is the job's.
 pub(crate) enum Told {
@@ -23,10 +24,15 @@ fn shapeless(told: Told) -> Known
     ensures { λ r. ⌜ r .told ≡ told ⌝ }
 {
     let zeros = [0usize; 8];
+    let wall = Wall {
+        roof: false,
+        slope: 0,
+        start: 0,
+    };
     let shape = Shape {
         state: 1,
         k: 0,
-        f: 0,
+        wall,
         top: 0,
         ex: 0,
         ey: 0,

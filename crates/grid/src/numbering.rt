@@ -6,7 +6,7 @@ ghost use Rattle.lines.specs.Lines.{cutFrom};
 ghost use Rattle.lines.proofs.Ranking.{Ranks};
 ghost use Rattle.tables.specs.Calls.{Countable, NumbersAs};
 ghost use Rattle.tables.specs.Plans.{Narrow, PreparedFor, validFor, rankFor, NumbersFor};
-ghost use Rattle.tables.specs.Filling.{Begun, Full};
+ghost use Rattle.tables.specs.Filling.{Blank, Readable};
 use crate::edges::read;
 use crate::plan::cells_of;
 use crate::plan::offsets;
@@ -14,9 +14,9 @@ use crate::plan::plan_of;
 use crate::table::fill;
 use lines::Rank;
 use lines::Ranked;
-use tables::Answer;
 use tables::Plan;
 use tables::Shape;
+use tables::Tally;
 
 // The numbers of the edges, up to the first string that is none; the answer is how many.
 fn number_each(
@@ -30,7 +30,7 @@ fn number_each(
     ends: &[usize],
     numbers: &mut [u64],
 ) -> usize
-    requires { ⌜ Full p (now sa) (now sc) (now off) (now val) × (length (now ends) ≤ length (now numbers)) ⌝ }
+    requires { ⌜ Readable p (now sa) (now sc) (now off) (now val) × (length (now ends) ≤ length (now numbers)) ⌝ }
     ensures { λ n. ⌜ Ranks (validFor false p (now (sa .entry)) (now (sc .entry))) (rankFor false p (now (sa .entry)) (now (sc .entry))) (cutFrom from (now (ends .entry)) (now (bytes .entry))) (now (numbers .entry)) (now (numbers .exit)) n ⌝ }
 {
     let mut at = from;
@@ -59,10 +59,10 @@ fn number_in(
     ends: &[usize],
     numbers: &mut [u64],
 ) -> Ranked
-    requires { ⌜ Begun p (now sa) (now sc) (now off) (now val) × Narrow p × (length (now ends) ≤ length (now numbers)) ⌝ }
+    requires { ⌜ Blank p (now sa) (now sc) (now off) (now val) × Narrow p × (length (now ends) ≤ length (now numbers)) ⌝ }
     ensures { λ r. ⌜ NumbersFor false p (now (sa .entry)) (now (sc .entry)) (cutFrom from (now (ends .entry)) (now (bytes .entry))) (now (numbers .entry)) (now (numbers .exit)) r ⌝ }
 {
-    if let Answer::Over = fill(val, sa, sc, off, p) {
+    if let Tally::Over = fill(val, sa, sc, off, p) {
         return Ranked::Refused(4);
     }
     Ranked::Upto(number_each(val, sa, sc, off, p, bytes, from, ends, numbers))

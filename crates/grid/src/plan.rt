@@ -66,23 +66,24 @@ pub(crate) fn plan_of(s: Shape) -> Plan
     ensures { λ p. ⌜ PlanOf s p ⌝ }
 {
     let mut hi: usize = 0;
-    let mut m: usize = 0;
+    let mut deep: usize = 0;
     let mut i = 0;
     while i < 8 {
         let a = s.sa[i];
         let c = s.sc[i];
         hi = steeper(hi, a, c, s.ex);
-        m = deeper(m, a, c, s.top, s.ex);
+        deep = deeper(deep, a, c, s.top, s.ex);
         i += 1;
     }
     let few = is_few(&s.sa, s.ex);
+    let wall = s.wall;
     Plan {
         few,
         k: s.k,
-        f: s.f,
+        wall,
         top: s.top,
         hi,
-        m,
+        deep,
         ex: s.ex,
         ey: s.ey,
     }
@@ -93,7 +94,7 @@ pub(crate) fn offsets(sa: &[usize; 8], sc: &[usize; 8], p: Plan) -> [usize; 8]
     requires { ⌜ Planned (now sa) (now sc) p ⌝ }
     ensures { λ r. ⌜ Offsets (now (sa .entry)) (now (sc .entry)) r (strideFor p) ⌝ }
 {
-    let stride = p.m + p.ey + 1;
+    let stride = p.deep + p.ey + 1;
     let mut off = [0usize; 8];
     let mut i = 0;
     while i < 8 {
@@ -108,5 +109,5 @@ pub(crate) fn cells_of(p: Plan) -> usize
     requires { ⌜ SizesFor p ⌝ }
     ensures { λ r. ⌜ r ≡ cellsFor p ⌝ }
 {
-    (p.ex + 2) * (p.m + p.ey + 1)
+    (p.ex + 2) * (p.deep + p.ey + 1)
 }

@@ -2,7 +2,12 @@
 // table is small.
 ghost use mathlib.Core.Path.{_≡_};
 ghost use Prim.Native.Nat.{_≤_, _<_, _+_, _*_};
-ghost use Rattle.tables.specs.Shapes.{Laid, Sound, Ranged, ShapedFor, Gentle, Lowered, View, Chosen};
+ghost use lib.Dec.{eqb};
+ghost use mathlib.Core.Bool.{true};
+ghost use Rattle.howmany.specs.Choose.{pick};
+ghost use Rattle.rules.specs.Blocks.{paired};
+ghost use Rattle.tables.specs.Form.{fence};
+ghost use Rattle.tables.specs.Shapes.{Laid, Ranged, Fenced, ShapedFor, Gentle, Lowered, View, Chosen};
 use crate::heights::height;
 use crate::heights::heights;
 use crate::heights::highest;
@@ -10,6 +15,7 @@ use crate::heights::lowest;
 use crate::heights::wall;
 use job::Job;
 use tables::Shape;
+use tables::Wall;
 
 fn wide(x: u8) -> usize
     ensures { λ r. ⌜ r ≡ x ⌝ }
@@ -17,10 +23,10 @@ fn wide(x: u8) -> usize
     x as usize
 }
 
-// The job's own heights; f is the fence's slope. An end below -3n can't be reached. The loop has eight turns whatever k is: so the compiler
+// The job's own heights; f is its fence. An end below -3n can't be reached. The loop has eight turns whatever k is: so the compiler
 // unrolls it and keeps the steps in registers, where as bytes written and read back they would wait for each other.
-fn own_shape(job: Job, f: usize) -> Shape
-    requires { ⌜ Ranged job × (f ≤ 3) ⌝ }
+fn own_shape(job: Job, f: Wall) -> Shape
+    requires { ⌜ Ranged job ⌝ }
     ensures { λ r. ⌜ Laid job f r ⌝ }
 {
     let n = wide(job.n);
@@ -43,7 +49,7 @@ fn own_shape(job: Job, f: usize) -> Shape
         return Shape {
             state: 1,
             k,
-            f,
+            wall: f,
             top: 12,
             ex: n,
             ey: 0,
@@ -54,7 +60,7 @@ fn own_shape(job: Job, f: usize) -> Shape
     Shape {
         state: 0,
         k,
-        f,
+        wall: f,
         top: 12,
         ex: n,
         ey: up - 128,
@@ -81,7 +87,8 @@ fn seen(mut s: Shape, mirrored: bool, d: usize) -> Shape
     let k = s.k;
     let level = d * s.ex;
     let up = heights(mirrored, d, &sa, &sc, k);
-    s.f = wall(mirrored, s.f, d);
+    let f = s.wall;
+    s.wall = wall(mirrored, f, d);
     s.ey = height(mirrored, s.ey, level);
     s.sc = up;
     s
@@ -97,7 +104,7 @@ fn lowered(s: Shape) -> Shape
     let k = s.k;
     let y = s.ey;
     let low = lowest(&sa, &sc, k);
-    let high = highest(&sa, &sc, k, s.f);
+    let high = highest(&sa, &sc, k, s.wall.slope);
     let floor = low * s.ex;
     let ceiling = high * s.ex;
     if y < floor {
@@ -112,9 +119,9 @@ fn lowered(s: Shape) -> Shape
     seen(s, false, low)
 }
 
-// The shape of a job; f is the fence's slope.
-fn directed_shape(job: Job, f: usize) -> Shape
-    requires { ⌜ Ranged job × (f ≤ 3) ⌝ }
+// The shape of a job; f is its fence.
+fn directed_shape(job: Job, f: Wall) -> Shape
+    requires { ⌜ Ranged job × Fenced f ⌝ }
     ensures { λ r. ⌜ Chosen job f r ⌝ }
 {
     let own = own_shape(job, f);
@@ -125,14 +132,23 @@ fn directed_shape(job: Job, f: usize) -> Shape
     lowered(own)
 }
 
+// Family 7 stays at y ≥ 0, which is the slope 3 in the job's own heights; family 6 has no fence.
+fn fence_of(family: u8) -> Wall
+    ensures { λ r. ⌜ r ≡ fence (pick (eqb family 7) 3 0) 0 ⌝ }
+{
+    let slope = if family == 7 { 3 } else { 0 };
+    Wall {
+        roof: false,
+        slope,
+        start: 0,
+    }
+}
+
 // A job of family 6 or 7 in the grid's form.
 pub(crate) fn shape_of(job: Job) -> Shape
-    requires { ⌜ Sound job × (6 ≤ job .family) ⌝ }
+    requires { ⌜ Ranged job × (paired (job .family) ≡ true) ⌝ }
     ensures { λ r. ⌜ ShapedFor job r ⌝ }
 {
-    let family = job.family;
-    if family == 6 {
-        return directed_shape(job, 0);
-    }
-    directed_shape(job, 3)
+    let fence = fence_of(job.family);
+    directed_shape(job, fence)
 }

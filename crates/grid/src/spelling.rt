@@ -6,7 +6,7 @@ ghost use Prim.Native.Nat.{_≤_, _<_};
 ghost use lib.ListN.{length};
 ghost use Rattle.rules.specs.Questions.{allBelow};
 ghost use Rattle.tables.specs.Spelling.{Front};
-ghost use Rattle.tables.specs.Filling.{Begun, Full};
+ghost use Rattle.tables.specs.Filling.{Blank, Readable};
 ghost use Rattle.tables.specs.Calls.{BuildsAs, Countable};
 ghost use Rattle.tables.specs.Plans.{Narrow, PreparedFor, walksFor, RoomFor, edgeFor, ListsFor, BuildsFor};
 use crate::edges::spell;
@@ -15,9 +15,9 @@ use crate::plan::offsets;
 use crate::plan::plan_of;
 use crate::table::fill;
 use job::Built;
-use tables::Answer;
 use tables::Plan;
 use tables::Shape;
+use tables::Tally;
 
 // The edge of number r, to the front of steps; the answer is its length.
 fn spell_front(
@@ -29,7 +29,7 @@ fn spell_front(
     r: u64,
     steps: &mut [u8],
 ) -> usize
-    requires { ⌜ Full p (now sa) (now sc) (now off) (now val) × (r < walksFor p (now sa) (now sc)) × (128 ≤ length (now steps)) ⌝ }
+    requires { ⌜ Readable p (now sa) (now sc) (now off) (now val) × (r < walksFor p (now sa) (now sc)) × (128 ≤ length (now steps)) ⌝ }
     ensures { λ n. ⌜ Front (edgeFor false p (now (sa .entry)) (now (sc .entry)) r) (now (steps .entry)) (now (steps .exit)) n ⌝ }
 {
     let mut buf = [0u8; 128];
@@ -49,7 +49,7 @@ fn spell_all(
     steps: &mut [u8],
     ends: &mut [usize],
 ) -> usize
-    requires { ⌜ Full p (now sa) (now sc) (now off) (now val) × (allBelow (walksFor p (now sa) (now sc)) (now numbers) ≡ true) × RoomFor (now numbers) (now steps) (now ends) ⌝ }
+    requires { ⌜ Readable p (now sa) (now sc) (now off) (now val) × (allBelow (walksFor p (now sa) (now sc)) (now numbers) ≡ true) × RoomFor (now numbers) (now steps) (now ends) ⌝ }
     ensures { λ at. ⌜ ListsFor false p (now (sa .entry)) (now (sc .entry)) (now (numbers .entry)) (now (steps .entry)) (now (ends .entry)) (now (steps .exit)) (now (ends .exit)) at ⌝ }
 {
     let mut at: usize = 0;
@@ -74,10 +74,10 @@ fn spell_in(
     steps: &mut [u8],
     ends: &mut [usize],
 ) -> Built
-    requires { ⌜ Begun p (now sa) (now sc) (now off) (now val) × Narrow p × RoomFor (now numbers) (now steps) (now ends) ⌝ }
+    requires { ⌜ Blank p (now sa) (now sc) (now off) (now val) × Narrow p × RoomFor (now numbers) (now steps) (now ends) ⌝ }
     ensures { λ r. ⌜ BuildsFor false p (now (sa .entry)) (now (sc .entry)) (now (numbers .entry)) (now (steps .entry)) (now (ends .entry)) (now (steps .exit)) (now (ends .exit)) r ⌝ }
 {
-    let Answer::Count(c) = fill(val, sa, sc, off, p) else {
+    let Tally::Count(c) = fill(val, sa, sc, off, p) else {
         return Built::Refused(4);
     };
     if !lines::all_below(numbers, c) {

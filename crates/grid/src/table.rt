@@ -1,7 +1,7 @@
 // The table of families 6 and 7 filled column by column: first without tests, and with flags from the first column that could need them.
 ghost use Prim.Native.Nat.{_+_};
 ghost use Rattle.tables.specs.Plans.{FlaggedFor, Narrow, SpansFor};
-ghost use Rattle.tables.specs.Filling.{Begun, Before, After, Got, Resumed, Turn, Slow, Filled};
+ghost use Rattle.tables.specs.Filling.{Blank, Unflagged, ColumnDone, FilledTo, Unfinished, Flagging, FlaggingSpan, Filled};
 use crate::column::column2;
 use crate::column::column4;
 use crate::column::column8;
@@ -10,8 +10,8 @@ use crate::cone::spans;
 use crate::flags::cell;
 use crate::flags::put;
 use crate::flags::total;
-use tables::Answer;
 use tables::Plan;
+use tables::Tally;
 
 // Column x. Whether the next one can be summed without a test: two steps have no more than 2^32 walks in 32 columns, four no more than 2^60
 // in 30, and eight in 20.
@@ -25,16 +25,16 @@ fn step(
     p: Plan,
     x: usize,
 ) -> bool
-    requires { ⌜ Before p (now sa) (now sc) (now off) (now val) x ⌝ }
+    requires { ⌜ Unflagged p (now sa) (now sc) (now off) (now val) x ⌝ }
     requires { ⌜ SpansFor p (now starts) (now stops) ⌝ }
-    ensures { λ r. ⌜ After p (now (sa .entry)) (now (sc .entry)) (now (val .exit)) x r ⌝ }
+    ensures { λ r. ⌜ ColumnDone p (now (sa .entry)) (now (sc .entry)) (now (val .exit)) x r ⌝ }
 {
     let from = starts[x];
     let to = stops[x];
     if to <= from {
         return true;
     }
-    let d = (x + 1) * (p.m + p.ey + 1) + (p.m + from);
+    let d = (x + 1) * (p.deep + p.ey + 1) + (p.deep + from);
     let n = to - from;
     if p.k <= 2 {
         column2(val, sa, off, x, d, n);
@@ -66,14 +66,15 @@ fn slow(
     from: usize,
     to: usize,
 )
-    requires { ⌜ Slow p (now sa) (now sc) (now off) (now val) (now ov) x from to ⌝ }
+    requires { ⌜ FlaggingSpan p (now sa) (now sc) (now off) (now val) (now ov) x from to ⌝ }
     ensures { λ _. ⌜ FlaggedFor p (now (sa .entry)) (now (sc .entry)) (now (val .exit)) (now (ov .exit)) (x + 1) ⌝ }
 {
-    let base = (x + 1) * (p.m + p.ey + 1) + p.m;
+    let column = (x + 1) * (p.deep + p.ey + 1);
     let mut y = from;
     while y < to {
-        let r = total(val, ov, sa, sc, off, p.k, p.f, x, y, base + y);
-        put(val, ov, base + y, r);
+        let at = column + p.deep + y;
+        let r = total(val, ov, sa, off, x, at);
+        put(val, ov, at, r);
         y += 1;
     }
 }
@@ -90,7 +91,7 @@ fn turn(
     p: Plan,
     x: usize,
 )
-    requires { ⌜ Turn p (now sa) (now sc) (now off) (now val) (now ov) x ⌝ }
+    requires { ⌜ Flagging p (now sa) (now sc) (now off) (now val) (now ov) x ⌝ }
     requires { ⌜ SpansFor p (now starts) (now stops) ⌝ }
     ensures { λ _. ⌜ FlaggedFor p (now (sa .entry)) (now (sc .entry)) (now (val .exit)) (now (ov .exit)) (x + 1) ⌝ }
 {
@@ -112,12 +113,12 @@ fn fast(
     stops: &[usize; 33],
     p: Plan,
 ) -> usize
-    requires { ⌜ Begun p (now sa) (now sc) (now off) (now val) ⌝ }
+    requires { ⌜ Blank p (now sa) (now sc) (now off) (now val) ⌝ }
     requires { ⌜ SpansFor p (now starts) (now stops) ⌝ }
-    ensures { λ r. ⌜ Got p (now (sa .entry)) (now (sc .entry)) (now (val .exit)) r ⌝ }
+    ensures { λ r. ⌜ FilledTo p (now (sa .entry)) (now (sc .entry)) (now (val .exit)) r ⌝ }
 {
     let ex = p.ex;
-    val[(p.m + p.ey + 1) + p.m] = 1;
+    val[(p.deep + p.ey + 1) + p.deep] = 1;
     let mut x = 1;
     while x <= ex {
         let small = step(val, sa, sc, off, starts, stops, p, x);
@@ -139,8 +140,8 @@ fn rest(
     stops: &[usize; 33],
     p: Plan,
     first: usize,
-) -> Answer
-    requires { ⌜ Resumed p (now sa) (now sc) (now off) (now val) first ⌝ }
+) -> Tally
+    requires { ⌜ Unfinished p (now sa) (now sc) (now off) (now val) first ⌝ }
     requires { ⌜ SpansFor p (now starts) (now stops) ⌝ }
     ensures { λ r. ⌜ Filled p (now (sa .entry)) (now (sc .entry)) (now (val .exit)) r ⌝ }
 {
@@ -151,7 +152,7 @@ fn rest(
         turn(val, &mut ov, sa, sc, off, starts, stops, p, x);
         x += 1;
     }
-    cell(val, &ov, (ex + 1) * (p.m + p.ey + 1) + p.m + p.ey)
+    cell(val, &ov, (ex + 1) * (p.deep + p.ey + 1) + p.deep + p.ey)
 }
 
 // The whole table; the answer is the count at the end.
@@ -161,18 +162,19 @@ pub(crate) fn fill(
     sc: &[usize; 8],
     off: &[usize; 8],
     p: Plan,
-) -> Answer
-    requires { ⌜ Begun p (now sa) (now sc) (now off) (now val) × Narrow p ⌝ }
+) -> Tally
+    requires { ⌜ Blank p (now sa) (now sc) (now off) (now val) × Narrow p ⌝ }
     ensures { λ r. ⌜ Filled p (now (sa .entry)) (now (sc .entry)) (now (val .exit)) r ⌝ }
 {
     let mut starts = [0usize; 33];
     let mut stops = [0usize; 33];
-    spans(&mut starts, &mut stops, p.f, p.hi, p.ex, p.ey);
+    let wall = p.wall;
+    spans(&mut starts, &mut stops, wall, p.hi, p.ex, p.ey);
     let next = fast(val, sa, sc, off, &starts, &stops, p);
     if next <= p.ex {
         return rest(val, sa, sc, off, &starts, &stops, p, next);
     }
-    let end = (p.ex + 1) * (p.m + p.ey + 1) + p.m + p.ey;
+    let end = (p.ex + 1) * (p.deep + p.ey + 1) + p.deep + p.ey;
     let v = val[end];
-    Answer::Count(v)
+    Tally::Count(v)
 }

@@ -1,5 +1,6 @@
 pub mod Blocks
 pub mod Makes
 pub mod Standing
+pub mod Sorts
 pub mod Puts
 pub mod Says

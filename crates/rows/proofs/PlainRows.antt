@@ -26,19 +26,19 @@ use Rattle.lines.specs.declared.Rank.the-variants.{NoEdge}
 use Rattle.letters.specs.Letters.{placeOf, glyphOf}
 use Rattle.letters.proofs.Glyphs.{place-n, place-e, place-d, place-no, glyph-n, glyph-e, glyph-d}
 use Rattle.rows.specs.declared.plain.Plain.{Plain}
-use Rattle.tables.specs.Form.{wall, via}
+use Rattle.tables.specs.Form.{wall, via, unwalled}
 use Rattle.tables.specs.Cells.{place, sourceOf}
 use Rattle.tables.specs.Edges.{Reads, Sought}
-use Rattle.rows.specs.Plains.{plainPlan, plainRight, plainUp, plainBack, plainEnd, plainWalks, PlainRank, plainEdge, rises, isAcross, PlainSizes, PlainFull, Within}
+use Rattle.rows.specs.Plains.{plainPlan, plainRight, plainUp, plainBack, plainEnd, plainWalks, PlainRank, plainEdge, rises, isAcross, PlainSizes, PlainReadable, Within}
 use Rattle.tables.specs.Plans.{strideFor, cellsFor}
 use Rattle.rows.specs.Rows.{Rowing}
-use Rattle.tables.proofs.Walls.{wall-level}
+use Rattle.tables.proofs.Walls.{wall-none}
 use Rattle.tables.proofs.Laws.{sum-more, mul-bound}
 use Rattle.tables.proofs.Counts.{pos-of}
 use Rattle.tables.proofs.Columns.{source-in}
 use Rattle.tables.proofs.Phases.{last-row}
 use Rattle.rows.proofs.Along.{Along, along-start, along-over, along-next}
-use Rattle.tables.proofs.Numbers.{Walking, walking-start, Stepped, stepped, step-as, not-letter, not-right, not-up, read-in, read-is}
+use Rattle.tables.proofs.Numbers.{Walking, walking-start, Stepped, stepped, step-as, not-letter, not-right, not-up}
 use Rattle.tables.proofs.Building.{Writing, written, write-as, writing-start, writing-end, reads-of, left-of, seek-here, seek-end}
 
 two-there : (d : Bool) → (2 ≤ pick d 3 2) × (pick d 3 2 ≤ 8)
@@ -78,7 +78,7 @@ module _ (c : Plain) where
       either false = w .m-most
 
   abbrev steps-via : ℕ → ℕ → ℕ → ℕ
-  steps-via x y = via (plainPlan c .k) 0 (plainRight c) (plainUp c) x y
+  steps-via x y = via (plainPlan c .k) unwalled (plainRight c) (plainUp c) x y
 
   -- D's cells lie as far back as N's and E's together
   across-back : {n o : ℕ} → n ≡ getD (plainBack c) 0 0 → o ≡ getD (plainBack c) 1 0 → c .diagonal ≡ true → n + o ≡ getD (plainBack c) 2 0
@@ -98,14 +98,14 @@ pub record Near (c : Plain) (val : List ℕ) (x y cell n o : ℕ) : Type 0 where
   pub both : getD val (cell - n) 0 + getD val (cell - o) 0 ≡ sum (steps-via c x y) 2
   pub fits : getD val (cell - n) 0 + getD val (cell - o) 0 < 2 ^ 64
 
-pub near : (c : Plain) {val : List ℕ} {x y cell n o : ℕ} → Reads (plainPlan c .k) 0 (plainRight c) (plainUp c) (plainBack c) val x y cell → 1 ≤ x
+pub near : (c : Plain) {val : List ℕ} {x y cell n o : ℕ} → Reads (plainPlan c .k) unwalled (plainRight c) (plainUp c) (plainBack c) val x y cell → 1 ≤ x
     → n ≡ getD (plainBack c) 0 0 → o ≡ getD (plainBack c) 1 0 → Near c val x y cell n o
 unfolding sum
 near c {val} {x} {y} {cell} {n} {o} rd px en eo = record {
   north-back = omega (arith, en, rd .back 0 first px);
   east-back = omega (arith, eo, rd .back 1 second px);
-  north-in = read-in rd 0 first at-north;
-  east-in = read-in rd 1 second at-east;
+  north-in = omega (arith, at-north, rd .in-val 0 first);
+  east-in = omega (arith, at-east, rd .in-val 1 second);
   north-is = is-north;
   east-is = is-east;
   one = omega (arith, is-north);
@@ -126,10 +126,10 @@ near c {val} {x} {y} {cell} {n} {o} rd px en eo = record {
     at-east = ap (λ (z : ℕ). cell - z) eo ∙ sym (source-in (plainRight c) (plainBack c) x cell 1 px)
 
     is-north : getD val (cell - n) 0 ≡ steps-via c x y 0
-    is-north = read-is rd 0 first at-north
+    is-north = ap (λ (j : ℕ). getD val j 0) at-north ∙ rd .says 0 first
 
     is-east : getD val (cell - o) 0 ≡ steps-via c x y 1
-    is-east = read-is rd 1 second at-east
+    is-east = ap (λ (j : ℕ). getD val j 0) at-east ∙ rd .says 1 second
 
 -- ---- the loop along a row
 
@@ -165,13 +165,13 @@ pub record Taken (c : Plain) (val e : List ℕ) (acc x y cell i a u o v : ℕ) :
   pub fits : acc + v < 2 ^ 64
   pub next : {t : ℕ} → t ≡ acc + v → Walking true (plainPlan c) (plainRight c) (plainUp c) (plainBack c) val e t (x - a) (y - u) (cell - o) (i - 1)
 
-pub read-start : (c : Plain) {val e : List ℕ} → PlainFull c val → {y cell : ℕ} → y ≡ plainPlan c .ey → cell ≡ plainEnd c
+pub read-start : (c : Plain) {val e : List ℕ} → PlainReadable c val → {y cell : ℕ} → y ≡ plainPlan c .ey → cell ≡ plainEnd c
     → Walking true (plainPlan c) (plainRight c) (plainUp c) (plainBack c) val e 0 (c .n + c .m) y cell (length e)
 read-start c fu ey ep = rw ey (walking-start fu ep)
 
 module _ (c : Plain) {val e : List ℕ} {acc x y cell i : ℕ} (w : Walking true (plainPlan c) (plainRight c) (plainUp c) (plainBack c) val e acc x y cell i) (h : 0 < i) where
-  level : T (wall 0 x y)
-  level = wall-level 0 x y refl
+  level : T (wall unwalled x y)
+  level = wall-none unwalled x y refl
 
   pub not-left : x < 1 → PlainRank c e NoEdge
   not-left o = elim (decLt (placeOf true (getD e (i - 1) 0)) (plainPlan c .k)) [
@@ -248,7 +248,7 @@ module _ (c : Plain) {val e : List ℕ} {acc x y cell i : ℕ} (w : Walking true
 
 -- what holds of the code's numbers before the loop
 pub record Given (c : Plain) (val : List ℕ) (r : ℕ) (buf : List ℕ) (n o x cell : ℕ) : Type 0 where
-  pub full : PlainFull c val
+  pub full : PlainReadable c val
   pub less : r < plainWalks c
   pub long : length buf ≡ 128
   pub north : n ≡ getD (plainBack c) 0 0

@@ -19,27 +19,27 @@ use lib.Dec.{T, ltb, leb, eqb, leb→le, eqb→eq}
 use lib.ListN.{length, getD}
 use borrow.Author.Tests.{lt-ltb, le-ltb, ltb-true, ltb-false}
 use Rattle.howmany.specs.Choose.{pick, bit}
-use Rattle.howmany.proofs.Choices.{and-left, and-right}
+use Rattle.howmany.proofs.Choices.{and-left, and-right, is-true}
 use Rattle.howmany.proofs.Cases.{two, three, eight}
 use Rattle.rules.specs.Jobs as rules
-use Rattle.rules.specs.Jobs.Job.{north-east, dyck, delannoy, schroder, motzkin, directed}
+use Rattle.rules.specs.Jobs.Job.{north-east, delannoy}
 use Rattle.rules.specs.Counts.{countOf}
-use Rattle.rules.proofs.Shear.{gridOf}
+use Rattle.rules.proofs.Shear.{northEastGrid, delannoyGrid}
 use Rattle.rules.specs.Blocks.{familyOf, plain, jobAnswer}
 use Rattle.rules.specs.Refusals.Answer.{accepted}
-use Rattle.rules.proofs.Ranges.{InRange}
 use Rattle.job.specs.Replies.{reply, countSays}
 use Rattle.job.specs.declared.Counted.{Counted}
 use Rattle.job.specs.declared.Job.{Job}
 use Rattle.job.specs.declared.Built.{Built}
-use Rattle.job.specs.Stands.{Level, Stands}
-use Rattle.job.specs.Stands.Stands.{as-north-east, as-dyck, as-delannoy, as-schroder, as-motzkin, as-open, as-fenced}
+use Rattle.job.specs.Stands.{Level}
+use Rattle.job.proofs.Sorts.{AsPlain, plain-of}
+use Rattle.job.proofs.Sorts.AsPlain.{as-plain}
 use Rattle.job.proofs.Standing.{Kept}
 use Rattle.lines.specs.declared.Ranked.{Ranked}
 use Rattle.plains.specs.Plains.{ends}
 use Rattle.plains.proofs.Ends.{ends-over}
-use Rattle.tables.specs.Form.{Form, spot}
-use Rattle.tables.specs.Shapes.{isLettered, Fits}
+use Rattle.tables.specs.Form.{Form, spot, wall, unwalled}
+use Rattle.tables.specs.Shapes.{Fits}
 use Rattle.tables.specs.Shapes.Shows.{slid, mirrored}
 use Rattle.tables.specs.Table.{Offsets}
 use Rattle.tables.specs.Plans.{strideFor, cellsFor, Planned, PlanOf}
@@ -49,6 +49,7 @@ use Rattle.rows.specs.Plains.{plainOf, plainJob, plainCount, plainPlan, 
 use Rattle.rows.specs.declared.plain.Plain.{Plain}
 use Rattle.tables.specs.declared.Shape.{Shape}
 use Rattle.tables.proofs.Walls.{wall-none}
+use Rattle.tables.proofs.Gridded.{north-east-gridded, delannoy-gridded}
 use Rattle.tables.proofs.Laws.{mul-bound}
 use Rattle.tables.proofs.Prepare.{form-pos}
 use Rattle.tables.proofs.Planning.{prepared-for, prepared-last}
@@ -84,7 +85,7 @@ gone k i a c t l =
     (eqb→eq a 100 (and-left (eqb a 100) (eqb c 0) u), eqb→eq c 0 (and-right (eqb a 100) (eqb c 0) u))
 
 plain-form : (k : ℕ) (sa sc : List ℕ) (ex ey : ℕ) → length sa ≡ 8 → length sc ≡ 8 → 1 ≤ k → k ≤ 8
-    → ((i : ℕ) → i < 8 → T (ok k i (getD sa i 0) (getD sc i 0))) → ex ≤ 97 → ey ≤ 33 → Form k 0 sa sc 1 ex ey
+    → ((i : ℕ) → i < 8 → T (ok k i (getD sa i 0) (getD sc i 0))) → ex ≤ 97 → ey ≤ 33 → Form k unwalled sa sc 1 ex ey
 plain-form k sa sc ex ey la lc some most t lx ly = record {
   eight = la;
   eight-too = lc;
@@ -96,7 +97,7 @@ plain-form k sa sc ex ey la lc some most t lx ly = record {
   flat = λ i l h. gone k i (getD sa i 0) (getD sc i 0) (t i h) l .1;
   low = λ i l. low i l (decLt i k);
   top-le = omega arith;
-  f-le = omega arith;
+  slight = record { slope-le = omega arith; start-le = omega arith };
   ex-le = lx;
   ey-le = omega arith;
   cells = omega (arith, mul-bound (ex + 2) (1 + ey + 1) 99 35 (omega arith) (omega arith));
@@ -113,7 +114,7 @@ abbrev shapeBy : Bool → Bool → ℕ → ℕ → Shape
 shapeBy t d n m = record {
   state = 0;
   k = pick d 3 2;
-  f = 0;
+  wall = unwalled;
   top = 1;
   ex = n + m;
   ey = pick t n m;
@@ -127,45 +128,52 @@ jobBy d n m = pick d (delannoy n m) (north-east n m)
 abbrev plainShape : Plain → Shape
 plainShape c = shapeBy (ltb (c .n) (c .m)) (c .diagonal) (c .n) (c .m)
 
-fits : (t d : Bool) (n m : ℕ) → Fits (jobBy d n m) (shapeBy t d n m)
+free : (x y : ℕ) → wall unwalled x y ≡ true
+free x y = is-true (wall unwalled x y) (wall-none unwalled x y refl)
+
+fits : (t d : Bool) (n m : ℕ) → Fits (jobBy d n m) true (shapeBy t d n m)
 fits true true n m = record {
+  steps = delannoyGrid;
   end = spot (n + m) m;
-  sits = record { across = refl; up = refl };
+  gridded = delannoy-gridded n m (spot (n + m) m) (record { across = refl; up = refl });
   shows = mirrored 1 (record {
     many = refl;
-    right = three (λ i. getD (shapeBy true true n m .sa) i 0 ≡ gridOf (delannoy n m) .a i) refl refl refl;
-    up = three (λ i. getD (shapeBy true true n m .sc) i 0 + gridOf (delannoy n m) .c i ≡ 1 * gridOf (delannoy n m) .a i) refl refl refl;
-    wall = λ x y l. wall-none x y;
+    right = three (λ i. getD (shapeBy true true n m .sa) i 0 ≡ delannoyGrid .a i) refl refl refl;
+    up = three (λ i. getD (shapeBy true true n m .sc) i 0 + delannoyGrid .c i ≡ 1 * delannoyGrid .a i) refl refl refl;
+    wall = λ x y l. free x y;
   }) (refl, omega arith);
 }
 fits true false n m = record {
+  steps = northEastGrid;
   end = spot (n + m) m;
-  sits = record { across = refl; up = refl };
+  gridded = north-east-gridded n m (spot (n + m) m) (record { across = refl; up = refl });
   shows = mirrored 1 (record {
     many = refl;
-    right = two (λ i. getD (shapeBy true false n m .sa) i 0 ≡ gridOf (north-east n m) .a i) refl refl;
-    up = two (λ i. getD (shapeBy true false n m .sc) i 0 + gridOf (north-east n m) .c i ≡ 1 * gridOf (north-east n m) .a i) refl refl;
-    wall = λ x y l. wall-none x y;
+    right = two (λ i. getD (shapeBy true false n m .sa) i 0 ≡ northEastGrid .a i) refl refl;
+    up = two (λ i. getD (shapeBy true false n m .sc) i 0 + northEastGrid .c i ≡ 1 * northEastGrid .a i) refl refl;
+    wall = λ x y l. free x y;
   }) (refl, omega arith);
 }
 fits false true n m = record {
+  steps = delannoyGrid;
   end = spot (n + m) m;
-  sits = record { across = refl; up = refl };
+  gridded = delannoy-gridded n m (spot (n + m) m) (record { across = refl; up = refl });
   shows = slid 0 (record {
     many = refl;
-    right = three (λ i. getD (shapeBy false true n m .sa) i 0 ≡ gridOf (delannoy n m) .a i) refl refl refl;
-    up = three (λ i. getD (shapeBy false true n m .sc) i 0 + 0 * gridOf (delannoy n m) .a i ≡ gridOf (delannoy n m) .c i) refl refl refl;
-    wall = λ x y. wall-none x y;
+    right = three (λ i. getD (shapeBy false true n m .sa) i 0 ≡ delannoyGrid .a i) refl refl refl;
+    up = three (λ i. getD (shapeBy false true n m .sc) i 0 + 0 * delannoyGrid .a i ≡ delannoyGrid .c i) refl refl refl;
+    wall = λ x y. free x y;
   }) (refl, omega arith);
 }
 fits false false n m = record {
+  steps = northEastGrid;
   end = spot (n + m) m;
-  sits = record { across = refl; up = refl };
+  gridded = north-east-gridded n m (spot (n + m) m) (record { across = refl; up = refl });
   shows = slid 0 (record {
     many = refl;
-    right = two (λ i. getD (shapeBy false false n m .sa) i 0 ≡ gridOf (north-east n m) .a i) refl refl;
-    up = two (λ i. getD (shapeBy false false n m .sc) i 0 + 0 * gridOf (north-east n m) .a i ≡ gridOf (north-east n m) .c i) refl refl;
-    wall = λ x y. wall-none x y;
+    right = two (λ i. getD (shapeBy false false n m .sa) i 0 ≡ northEastGrid .a i) refl refl;
+    up = two (λ i. getD (shapeBy false false n m .sc) i 0 + 0 * northEastGrid .a i ≡ northEastGrid .c i) refl refl;
+    wall = λ x y. free x y;
   }) (refl, omega arith);
 }
 
@@ -186,7 +194,7 @@ many true = (omega arith, omega arith)
 many false = (omega arith, omega arith)
 
 -- the steps are those of families 1 and 3, and lead to the end
-steps-plain : (t d : Bool) (n m : ℕ) → PlainSteps (pick d 3 2) 0 (shapeBy t d n m .sa) (shapeBy t d n m .sc) 6 1 (n + m) (pick t n m)
+steps-plain : (t d : Bool) (n m : ℕ) → PlainSteps (pick d 3 2) unwalled (shapeBy t d n m .sa) (shapeBy t d n m .sc) 6 1 (n + m) (pick t n m)
 steps-plain t d n m = record {
   plain = record { level = refl; many = many-is d; one = refl; two = refl; rise = rise-is t; third = third-is d };
   slope = refl;
@@ -214,21 +222,7 @@ steps-plain t d n m = record {
 
 module _ (c : Plain) where
   abbrev steps-form : Type 0
-  steps-form = Form (pick (c .diagonal) 3 2) 0 (plainRight c) (plainUp c) 1 (c .n + c .m) (plainPlan c .ey)
-
-  range : InRange (plainJob c)
-  range = go (c .diagonal)
-    where
-      go : (d : Bool) → InRange (jobBy d (c .n) (c .m))
-      go true = tt
-      go false = tt
-
-  letters : isLettered (plainJob c) ≡ true
-  letters = go (c .diagonal)
-    where
-      go : (d : Bool) → isLettered (jobBy d (c .n) (c .m)) ≡ true
-      go true = refl
-      go false = refl
+  steps-form = Form (pick (c .diagonal) 3 2) unwalled (plainRight c) (plainUp c) 1 (c .n + c .m) (plainPlan c .ey)
 
   ends-is : ends (c .diagonal) (c .n) (c .m) ≡ countOf (plainJob c)
   unfolding countOf
@@ -271,7 +265,7 @@ module _ (c : Plain) where
     }
 
     plan-of : PlanOf (plainShape c) (plainPlan c)
-    plan-of = record { planned = planned; k-is = refl; f-is = refl; ex-is = refl; ey-is = refl }
+    plan-of = record { planned = planned; k-is = refl; wall-is = refl; ex-is = refl; ey-is = refl }
 
 module _ (c : Plain) {y : ℕ} (ey : y ≡ plainPlan c .ey) where
   pub plain-over : 33 < y → 2 ^ 64 ≤ countOf (plainJob c)
@@ -281,7 +275,7 @@ module _ (c : Plain) {y : ℕ} (ey : y ≡ plainPlan c .ey) where
     low : plainPlan c .ey ≤ 33
     low = omega arith
 
-    shown : Fits (plainJob c) (plainShape c)
+    shown : Fits (plainJob c) true (plainShape c)
     shown = fits (ltb (c .n) (c .m)) (c .diagonal) (c .n) (c .m)
 
     pub plain-ready : {cells : ℕ} → cells ≡ cellsFor (plainPlan c) → PlainReady c cells
@@ -291,10 +285,10 @@ module _ (c : Plain) {y : ℕ} (ey : y ≡ plainPlan c .ey) where
     plain-last = prepared-last (planned c w low) (offs c)
 
     pub plain-numbers : (es : List (List ℕ)) (before after : List ℕ) (x : Ranked) → PlainNumbers c es before after x → NumbersOf (plainJob c) es before after x
-    plain-numbers es before after x h = plan-numbers (plainJob c) (plainShape c) (range c) shown (plan-of c w low) (letters c) es before after x h
+    plain-numbers es before after x h = plan-numbers (plainJob c) (plainShape c) shown (plan-of c w low) es before after x h
 
     pub plain-builds : (ns steps ends : List ℕ) (x : Built) (t u : List ℕ) → PlainBuilds c ns steps ends t u x → BuildsOf (plainJob c) ns steps ends t u x
-    plain-builds ns steps ends x t u h = plan-builds (plainJob c) (plainShape c) (range c) shown (plan-of c w low) (letters c) ns steps ends x t u h
+    plain-builds ns steps ends x t u h = plan-builds (plainJob c) (plainShape c) shown (plan-of c w low) ns steps ends x t u h
 
 -- ---- the held job
 
@@ -302,36 +296,24 @@ pub record Levelled (j : Job) : Type 0 where
   pub m-least : 128 ≤ j .m
   pub within : Within (plainOf j)
 
-not-plain : {f g : ℕ} → f ≡ g → plain g ≡ false → plain f ≡ true → ⊥
-not-plain e q h = subst T (sym (sym q ∙ ap plain (sym e) ∙ h)) tt
+level-within : {j : Job} {m : ℕ} → Level j m → Levelled j
+level-within v = record { m-least = omega (arith, v .m-is); within = record { n-most = v .n-most; m-most = omega (arith, v .m-is, v .m-most) } }
 
-levelled : (j : Job) (J : rules.Job) → Stands j J → plain (j .family) ≡ true → Levelled j
-levelled j J s q = go s
+levelled : {j : Job} {J : rules.Job} → AsPlain j J → Levelled j
+levelled (as-plain d e v) = level-within v
+
+plain-job : {j : Job} {J : rules.Job} → AsPlain j J → J ≡ plainJob (plainOf j)
+plain-job {j} (as-plain d {m} e v) =
+    let h : j .m - 128 ≡ m = omega (arith, v .m-is) in
+    rw (ap (λ (f : ℕ). eqb f 3) e, three-is d, h)
   where
-    level : {m : ℕ} → Level j m → Levelled j
-    level v = record { m-least = omega (arith, v .m-is); within = record { n-most = v .n-most; m-most = omega (arith, v .m-is, v .m-most) } }
-
-    go : {K : rules.Job} → Stands j K → Levelled j
-    go (as-north-east e v) = level v
-    go (as-dyck e v) = absurd (not-plain e refl q)
-    go (as-delannoy e v) = level v
-    go (as-schroder e v) = absurd (not-plain e refl q)
-    go (as-motzkin e v) = absurd (not-plain e refl q)
-    go (as-open e v) = absurd (not-plain e refl q)
-    go (as-fenced e v) = absurd (not-plain e refl q)
-
-plain-job : (j : Job) (J : rules.Job) → Stands j J → plain (j .family) ≡ true → J ≡ plainJob (plainOf j)
-plain-job j (north-east n m) (as-north-east e v) q = let h : j .m - 128 ≡ m = omega (arith, v .m-is) in rw (ap (λ (f : ℕ). eqb f 3) e, h)
-plain-job j (dyck n) (as-dyck e v) q = absurd (not-plain e refl q)
-plain-job j (delannoy n m) (as-delannoy e v) q = let h : j .m - 128 ≡ m = omega (arith, v .m-is) in rw (ap (λ (f : ℕ). eqb f 3) e, h)
-plain-job j (schroder n) (as-schroder e v) q = absurd (not-plain e refl q)
-plain-job j (motzkin n) (as-motzkin e v) q = absurd (not-plain e refl q)
-plain-job j (directed f n m z p) (as-open e v) q = absurd (not-plain e refl q)
-plain-job j (directed f n m z p) (as-fenced e v) q = absurd (not-plain e refl q)
+    three-is : (d : Bool) → eqb (pick d 3 1) 3 ≡ d
+    three-is true = refl
+    three-is false = refl
 
 module _ (b : List ℕ) (j : Job) (k : Kept b j) (q : plain (familyOf b) ≡ true) where
   pub plain-level : Levelled j
-  plain-level = levelled j (k .job) (k .stands) (ap plain (k .family) ∙ q)
+  plain-level = levelled (plain-of (k .stands) (ap plain (k .family) ∙ q))
 
   pub plain-answer : {c : Plain} → c ≡ plainOf j → jobAnswer b ≡ accepted (plainJob c)
-  plain-answer e = k .answer ∙ ap accepted (plain-job j (k .job) (k .stands) (ap plain (k .family) ∙ q) ∙ rw e refl)
+  plain-answer e = k .answer ∙ ap accepted (plain-job (plain-of (k .stands) (ap plain (k .family) ∙ q)) ∙ rw e refl)

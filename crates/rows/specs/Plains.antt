@@ -10,7 +10,7 @@
 --   isAcross c b x y         the byte b is a D, and it can be the last step to (x, y)
 --   plainEnd c              where the end's count stands in the table
 --   Within c                 n and m are at most 64
---   PlainSizes, PlainReady, PlainBegun, PlainFull    SizesFor, PreparedFor, Begun and Full by that plan and these steps
+--   PlainSizes, PlainReady, PlainBlank, PlainReadable    SizesFor, PreparedFor, Blank and Readable by that plan and these steps
 --   plainWalks, plainValid, plainNumber, PlainRank, PlainRanks, PlainNumbers, plainEdge, PlainLists, PlainBuilds    walksFor, validFor, rankFor, RankFor, Ranks, NumbersFor, edgeFor,
 --                            ListsFor and BuildsFor by them
 use mathlib.Core.Bool.{Bool, true, not, _&&_}
@@ -31,9 +31,10 @@ use Rattle.lines.specs.declared.Ranked.{Ranked}
 use Rattle.lines.specs.Ranks.{RankIs}
 use Rattle.lines.proofs.Ranking.{Ranks}
 use Rattle.tables.specs.declared.Plan.{Plan}
+use Rattle.tables.specs.Form.{unwalled}
 use Rattle.tables.specs.Cells.{place}
 use Rattle.tables.specs.Plans.{strideFor, SizesFor, PreparedFor, walksFor, validFor, rankFor, NumbersFor, edgeFor, ListsFor, BuildsFor}
-use Rattle.tables.specs.Filling.{Begun, Full}
+use Rattle.tables.specs.Filling.{Blank, Readable}
 
 abbrev pub plainOf : Job → Plain
 plainOf j = record { n = j .n; m = j .m - 128; diagonal = eqb (j .family) 3 }
@@ -51,10 +52,10 @@ abbrev pub plainPlan : Plain → Plan
 plainPlan c = record {
   few = true;
   k = pick (c .diagonal) 3 2;
-  f = 0;
+  wall = unwalled;
   top = 1;
   hi = 6;
-  m = 1;
+  deep = 1;
   ex = c .n + c .m;
   ey = pick (ltb (c .n) (c .m)) (c .n) (c .m);
 }
@@ -96,12 +97,12 @@ abbrev pub PlainReady : Plain → ℕ → Type 0
 PlainReady c size = PreparedFor (plainPlan c) (plainRight c) (plainUp c) (plainBack c) size
 
 -- a table of zeros, ready to be filled
-abbrev pub PlainBegun : Plain → List ℕ → Type 0
-PlainBegun c val = Begun (plainPlan c) (plainRight c) (plainUp c) (plainBack c) val
+abbrev pub PlainBlank : Plain → List ℕ → Type 0
+PlainBlank c val = Blank (plainPlan c) (plainRight c) (plainUp c) (plainBack c) val
 
 -- a filled table, and the end's count fits
-abbrev pub PlainFull : Plain → List ℕ → Type 0
-PlainFull c val = Full (plainPlan c) (plainRight c) (plainUp c) (plainBack c) val
+abbrev pub PlainReadable : Plain → List ℕ → Type 0
+PlainReadable c val = Readable (plainPlan c) (plainRight c) (plainUp c) (plainBack c) val
 
 -- how many walks lead to the end
 abbrev pub plainWalks : Plain → ℕ

@@ -4,7 +4,7 @@ ghost use Prim.Native.Nat.{_≤_};
 ghost use lib.ListN.{length};
 ghost use Rattle.lines.specs.Lines.{cutFrom};
 ghost use Rattle.lines.specs.Known.{NumbersOf};
-ghost use Rattle.rows.specs.Plains.{plainJob, isAcross, PlainRank, PlainRanks, PlainNumbers, PlainBegun, PlainFull, PlainReady, Within};
+ghost use Rattle.rows.specs.Plains.{plainJob, isAcross, PlainRank, PlainRanks, PlainNumbers, PlainBlank, PlainReadable, PlainReady, Within};
 use crate::plain::HIGHEST;
 use crate::plain::Plain;
 use crate::plain::cells_of;
@@ -17,7 +17,7 @@ use crate::table::fill_rows;
 use job::Step;
 use lines::Rank;
 use lines::Ranked;
-use tables::Answer;
+use tables::Tally;
 
 // Whether the byte b is a D that can be the last step to (x, y).
 fn is_across(c: Plain, b: u8, x: usize, y: usize) -> bool
@@ -38,7 +38,7 @@ fn is_across(c: Plain, b: u8, x: usize, y: usize) -> bool
 // The number of the edge e (000, algorithms 1 and 5), or that e is none. Until that is known the sum fits all the same: with
 // the walks to (x, y) it is no more than the count.
 fn read(val: &[u64], c: Plain, e: &[u8]) -> Rank
-    requires { ⌜ PlainFull c (now val) ⌝ }
+    requires { ⌜ PlainReadable c (now val) ⌝ }
     ensures { λ r. ⌜ PlainRank c (now (e .entry)) r ⌝ }
 {
     let up_n = rise_of(c);
@@ -98,7 +98,7 @@ fn number_each(
     ends: &[usize],
     numbers: &mut [u64],
 ) -> usize
-    requires { ⌜ PlainFull c (now val) × (length (now ends) ≤ length (now numbers)) ⌝ }
+    requires { ⌜ PlainReadable c (now val) × (length (now ends) ≤ length (now numbers)) ⌝ }
     ensures { λ n. ⌜ PlainRanks c (cutFrom from (now (ends .entry)) (now (bytes .entry))) (now (numbers .entry)) (now (numbers .exit)) n ⌝ }
 {
     let mut at = from;
@@ -124,10 +124,10 @@ fn number_in(
     ends: &[usize],
     numbers: &mut [u64],
 ) -> Ranked
-    requires { ⌜ PlainBegun c (now val) × (length (now ends) ≤ length (now numbers)) ⌝ }
+    requires { ⌜ PlainBlank c (now val) × (length (now ends) ≤ length (now numbers)) ⌝ }
     ensures { λ r. ⌜ PlainNumbers c (cutFrom from (now (ends .entry)) (now (bytes .entry))) (now (numbers .entry)) (now (numbers .exit)) r ⌝ }
 {
-    if let Answer::Over = fill_rows(val, c) {
+    if let Tally::Over = fill_rows(val, c) {
         return Ranked::Refused(4);
     }
     Ranked::Upto(number_each(val, c, bytes, from, ends, numbers))

@@ -8,7 +8,7 @@ ghost use Rattle.rules.specs.Questions.{allBelow};
 ghost use Rattle.lines.specs.Known.{BuildsOf};
 ghost use Rattle.tables.specs.Plans.{RoomFor};
 ghost use Rattle.tables.specs.Spelling.{Front};
-ghost use Rattle.rows.specs.Plains.{plainJob, plainWalks, plainEdge, PlainBegun, PlainFull, PlainReady, PlainLists, PlainBuilds, Within};
+ghost use Rattle.rows.specs.Plains.{plainJob, plainWalks, plainEdge, PlainBlank, PlainReadable, PlainReady, PlainLists, PlainBuilds, Within};
 use crate::plain::HIGHEST;
 use crate::plain::Plain;
 use crate::plain::cells_of;
@@ -19,11 +19,11 @@ use crate::plain::north_of;
 use crate::table::fill_rows;
 use job::Built;
 use job::Step;
-use tables::Answer;
+use tables::Tally;
 
 // The edge of number r, at the end of buf (000, algorithms 2 and 6); the answer is where it starts.
 fn spell(val: &[u64], c: Plain, r: u64, buf: &mut [u8]) -> usize
-    requires { ⌜ PlainFull c (now val) × (r < plainWalks c) × (length (now buf) ≡ 128) ⌝ }
+    requires { ⌜ PlainReadable c (now val) × (r < plainWalks c) × (length (now buf) ≡ 128) ⌝ }
     ensures { λ s. ⌜ (s ≤ 128) × (drop s (now (buf .exit)) ≡ plainEdge c r) ⌝ }
 {
     let north = north_of(c);
@@ -59,7 +59,7 @@ fn spell(val: &[u64], c: Plain, r: u64, buf: &mut [u8]) -> usize
 
 // The edge of number r, to the front of steps; the answer is its length.
 fn spell_front(val: &[u64], c: Plain, r: u64, steps: &mut [u8]) -> usize
-    requires { ⌜ PlainFull c (now val) × (r < plainWalks c) × (128 ≤ length (now steps)) ⌝ }
+    requires { ⌜ PlainReadable c (now val) × (r < plainWalks c) × (128 ≤ length (now steps)) ⌝ }
     ensures { λ n. ⌜ Front (plainEdge c r) (now (steps .entry)) (now (steps .exit)) n ⌝ }
 {
     let mut buf = [0u8; 128];
@@ -70,7 +70,7 @@ fn spell_front(val: &[u64], c: Plain, r: u64, steps: &mut [u8]) -> usize
 
 // The edges, one after the other, and where each ends; the answer is where the last one does.
 fn spell_all(val: &[u64], c: Plain, numbers: &[u64], steps: &mut [u8], ends: &mut [usize]) -> usize
-    requires { ⌜ PlainFull c (now val) × (allBelow (plainWalks c) (now numbers) ≡ true) × RoomFor (now numbers) (now steps) (now ends) ⌝ }
+    requires { ⌜ PlainReadable c (now val) × (allBelow (plainWalks c) (now numbers) ≡ true) × RoomFor (now numbers) (now steps) (now ends) ⌝ }
     ensures { λ at. ⌜ PlainLists c (now (numbers .entry)) (now (steps .entry)) (now (ends .entry)) (now (steps .exit)) (now (ends .exit)) at ⌝ }
 {
     let mut at: usize = 0;
@@ -92,10 +92,10 @@ fn spell_in(
     steps: &mut [u8],
     ends: &mut [usize],
 ) -> Built
-    requires { ⌜ PlainBegun c (now val) × RoomFor (now numbers) (now steps) (now ends) ⌝ }
+    requires { ⌜ PlainBlank c (now val) × RoomFor (now numbers) (now steps) (now ends) ⌝ }
     ensures { λ r. ⌜ PlainBuilds c (now (numbers .entry)) (now (steps .entry)) (now (ends .entry)) (now (steps .exit)) (now (ends .exit)) r ⌝ }
 {
-    let Answer::Count(w) = fill_rows(val, c) else {
+    let Tally::Count(w) = fill_rows(val, c) else {
         return Built::Refused(4);
     };
     if !lines::all_below(numbers, w) {

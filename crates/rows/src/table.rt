@@ -7,13 +7,13 @@ ghost use lib.ListN.{length, getD};
 ghost use Rattle.howmany.specs.Choose.{pick};
 ghost use Rattle.tables.specs.Filling.{Filled};
 ghost use Rattle.rows.specs.Rows.{Rowing, Rowed, Risen};
-ghost use Rattle.rows.specs.Plains.{plainPlan, plainRight, plainUp, plainBack, PlainBegun};
+ghost use Rattle.rows.specs.Plains.{plainPlan, plainRight, plainUp, plainBack, PlainBlank};
 use crate::plain::Plain;
 use crate::plain::end_of;
 use crate::plain::lesser;
 use crate::plain::stride_of;
 use std::num::wrapping_add_u64;
-use tables::Answer;
+use tables::Tally;
 
 // The first cell of row y, which stands at `at`: the one before it on the diagonal.
 fn first(val: &[u64], stride: usize, y: usize, at: usize) -> u64
@@ -65,7 +65,7 @@ fn row(val: &mut [u64], c: Plain, y: usize) -> bool
 
 // All rows: whether the count at the end fits 64 bits.
 fn all_rows(val: &mut [u64], c: Plain) -> bool
-    requires { ⌜ PlainBegun c (now val) ⌝ }
+    requires { ⌜ PlainBlank c (now val) ⌝ }
     ensures { λ r. ⌜ Risen (plainPlan c) (plainRight c) (plainUp c) (now (val .exit)) r ⌝ }
 {
     let ey = lesser(c);
@@ -80,14 +80,14 @@ fn all_rows(val: &mut [u64], c: Plain) -> bool
 }
 
 // The whole table; the answer is the count at the end.
-pub(crate) fn fill_rows(val: &mut [u64], c: Plain) -> Answer
-    requires { ⌜ PlainBegun c (now val) ⌝ }
+pub(crate) fn fill_rows(val: &mut [u64], c: Plain) -> Tally
+    requires { ⌜ PlainBlank c (now val) ⌝ }
     ensures { λ r. ⌜ Filled (plainPlan c) (plainRight c) (plainUp c) (now (val .exit)) r ⌝ }
 {
     if !all_rows(val, c) {
-        return Answer::Over;
+        return Tally::Over;
     }
     let last = end_of(c);
     let v = val[last];
-    Answer::Count(v)
+    Tally::Count(v)
 }

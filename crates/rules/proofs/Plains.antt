@@ -30,7 +30,7 @@ use Rattle.rules.specs.Valid.{place, at}
 use Rattle.rules.specs.Order.{standing}
 use Rattle.rules.specs.Counts.{L, Dl}
 use Rattle.rules.specs.Numbers.{raised}
-use Rattle.rules.proofs.Shear.{Plain, gridOf}
+use Rattle.rules.proofs.Shear.{Plain, northEastGrid, delannoyGrid}
 use Rattle.rules.proofs.Letters.{point-eq}
 use Rattle.rules.proofs.Signed.{is-one, is-minus}
 use Rattle.rules.proofs.Sheared.{Back, Shear, Counted}
@@ -144,13 +144,13 @@ plain-counted ss G K H counts = record {
 
 -- ---- family 1
 
-pub north-east-plain : (n m : ℕ) → PlainSteps (stepsOf (north-east n m)) (gridOf (north-east n m))
+pub north-east-plain : (n m : ℕ) → PlainSteps (stepsOf (north-east n m)) northEastGrid
 north-east-plain n m = record {
   many = refl;
-  onward = record { ahead = two (λ i. 0 < gridOf (north-east n m) .a i) (omega arith) (omega arith); begins = tt };
+  onward = record { ahead = two (λ i. 0 < northEastGrid .a i) (omega arith) (omega arith); begins = tt };
   free = λ x y. refl;
-  right = two (λ i. at (stepsOf (north-east n m)) i .a + gridOf (north-east n m) .c i ≡ gridOf (north-east n m) .a i) refl refl;
-  up = two (λ i. at (stepsOf (north-east n m)) i .b ≡ pos (gridOf (north-east n m) .c i)) refl refl;
+  right = two (λ i. at (stepsOf (north-east n m)) i .a + northEastGrid .c i ≡ northEastGrid .a i) refl refl;
+  up = two (λ i. at (stepsOf (north-east n m)) i .b ≡ pos (northEastGrid .c i)) refl refl;
 }
 
 L-rim : (n : ℕ) → L n 0 ≡ 1
@@ -158,12 +158,12 @@ unfolding L
 L-rim zero = refl
 L-rim (suc n) = refl
 
-pub L-agrees : (n m : ℕ) → L n m ≡ paths (gridOf (north-east 0 0)) (record { x = n + m; y = m })
+pub L-agrees : (n m : ℕ) → L n m ≡ paths northEastGrid (record { x = n + m; y = m })
 unfolding L sum
-L-agrees zero zero = sym (paths-start (gridOf (north-east 0 0)) (north-east-plain 0 0 .onward) 0)
+L-agrees zero zero = sym (paths-start northEastGrid (north-east-plain 0 0 .onward) 0)
 L-agrees zero (suc m) =
     let ss = stepsOf (north-east 0 0) in
-    let G = gridOf (north-east 0 0) in
+    let G = northEastGrid in
     let H = north-east-plain 0 0 in
     let p : Spot = record { x = 0 + suc m; y = suc m } in
     omega (
@@ -175,7 +175,7 @@ L-agrees zero (suc m) =
     )
 L-agrees (suc n) zero =
     let ss = stepsOf (north-east 0 0) in
-    let G = gridOf (north-east 0 0) in
+    let G = northEastGrid in
     let H = north-east-plain 0 0 in
     let p : Spot = record { x = suc n + 0; y = 0 } in
     omega (
@@ -188,7 +188,7 @@ L-agrees (suc n) zero =
     )
 L-agrees (suc n) (suc m) =
     let ss = stepsOf (north-east 0 0) in
-    let G = gridOf (north-east 0 0) in
+    let G = northEastGrid in
     let H = north-east-plain 0 0 in
     let p : Spot = record { x = suc n + suc m; y = suc m } in
     omega (
@@ -200,25 +200,25 @@ L-agrees (suc n) (suc m) =
       term ss G H p (record { x = n + suc m; y = suc m }) 1 (omega arith) (omega arith),
     )
 
-pub north-east-shear : (n m : ℕ) → Shear (stepsOf (north-east n m)) origin (λ p. true) (gridOf (north-east n m)) Plain
+pub north-east-shear : (n m : ℕ) → Shear (stepsOf (north-east n m)) origin (λ p. true) northEastGrid Plain
 unfolding place standing
 north-east-shear n m =
     let ss = stepsOf (north-east n m) in
-    plain-shear ss (gridOf (north-east n m)) (north-east-plain n m)
+    plain-shear ss northEastGrid (north-east-plain n m)
     (two (λ i. place (at ss i .letter) ss ≡ i) refl refl) (two (λ i. standing (at ss i .letter) ≡ i) refl refl)
 
-pub north-east-counted : (n m : ℕ) → Counted (stepsOf (north-east n m)) (gridOf (north-east n m)) (raised L) Plain
-north-east-counted n m = plain-counted (stepsOf (north-east n m)) (gridOf (north-east n m)) L (north-east-plain n m) L-agrees
+pub north-east-counted : (n m : ℕ) → Counted (stepsOf (north-east n m)) northEastGrid (raised L) Plain
+north-east-counted n m = plain-counted (stepsOf (north-east n m)) northEastGrid L (north-east-plain n m) L-agrees
 
 -- ---- family 3
 
-pub delannoy-plain : (n m : ℕ) → PlainSteps (stepsOf (delannoy n m)) (gridOf (delannoy n m))
+pub delannoy-plain : (n m : ℕ) → PlainSteps (stepsOf (delannoy n m)) delannoyGrid
 delannoy-plain n m = record {
   many = refl;
-  onward = record { ahead = three (λ i. 0 < gridOf (delannoy n m) .a i) (omega arith) (omega arith) (omega arith); begins = tt };
+  onward = record { ahead = three (λ i. 0 < delannoyGrid .a i) (omega arith) (omega arith) (omega arith); begins = tt };
   free = λ x y. refl;
-  right = three (λ i. at (stepsOf (delannoy n m)) i .a + gridOf (delannoy n m) .c i ≡ gridOf (delannoy n m) .a i) refl refl refl;
-  up = three (λ i. at (stepsOf (delannoy n m)) i .b ≡ pos (gridOf (delannoy n m) .c i)) refl refl refl;
+  right = three (λ i. at (stepsOf (delannoy n m)) i .a + delannoyGrid .c i ≡ delannoyGrid .a i) refl refl refl;
+  up = three (λ i. at (stepsOf (delannoy n m)) i .b ≡ pos (delannoyGrid .c i)) refl refl refl;
 }
 
 D-rim : (n : ℕ) → Dl n 0 ≡ 1
@@ -226,12 +226,12 @@ unfolding Dl
 D-rim zero = refl
 D-rim (suc n) = refl
 
-pub D-agrees : (n m : ℕ) → Dl n m ≡ paths (gridOf (delannoy 0 0)) (record { x = n + m; y = m })
+pub D-agrees : (n m : ℕ) → Dl n m ≡ paths delannoyGrid (record { x = n + m; y = m })
 unfolding Dl sum
-D-agrees zero zero = sym (paths-start (gridOf (delannoy 0 0)) (delannoy-plain 0 0 .onward) 0)
+D-agrees zero zero = sym (paths-start delannoyGrid (delannoy-plain 0 0 .onward) 0)
 D-agrees zero (suc m) =
     let ss = stepsOf (delannoy 0 0) in
-    let G = gridOf (delannoy 0 0) in
+    let G = delannoyGrid in
     let H = delannoy-plain 0 0 in
     let p : Spot = record { x = 0 + suc m; y = suc m } in
     omega (
@@ -244,7 +244,7 @@ D-agrees zero (suc m) =
     )
 D-agrees (suc n) zero =
     let ss = stepsOf (delannoy 0 0) in
-    let G = gridOf (delannoy 0 0) in
+    let G = delannoyGrid in
     let H = delannoy-plain 0 0 in
     let p : Spot = record { x = suc n + 0; y = 0 } in
     omega (
@@ -258,7 +258,7 @@ D-agrees (suc n) zero =
     )
 D-agrees (suc n) (suc m) =
     let ss = stepsOf (delannoy 0 0) in
-    let G = gridOf (delannoy 0 0) in
+    let G = delannoyGrid in
     let H = delannoy-plain 0 0 in
     let p : Spot = record { x = suc n + suc m; y = suc m } in
     omega (
@@ -272,12 +272,12 @@ D-agrees (suc n) (suc m) =
       term ss G H p (record { x = n + m; y = m }) 2 (omega arith) (omega arith),
     )
 
-pub delannoy-shear : (n m : ℕ) → Shear (stepsOf (delannoy n m)) origin (λ p. true) (gridOf (delannoy n m)) Plain
+pub delannoy-shear : (n m : ℕ) → Shear (stepsOf (delannoy n m)) origin (λ p. true) delannoyGrid Plain
 unfolding place standing
 delannoy-shear n m =
     let ss = stepsOf (delannoy n m) in
-    plain-shear ss (gridOf (delannoy n m)) (delannoy-plain n m)
+    plain-shear ss delannoyGrid (delannoy-plain n m)
     (three (λ i. place (at ss i .letter) ss ≡ i) refl refl refl) (three (λ i. standing (at ss i .letter) ≡ i) refl refl refl)
 
-pub delannoy-counted : (n m : ℕ) → Counted (stepsOf (delannoy n m)) (gridOf (delannoy n m)) (raised Dl) Plain
-delannoy-counted n m = plain-counted (stepsOf (delannoy n m)) (gridOf (delannoy n m)) Dl (delannoy-plain n m) D-agrees
+pub delannoy-counted : (n m : ℕ) → Counted (stepsOf (delannoy n m)) delannoyGrid (raised Dl) Plain
+delannoy-counted n m = plain-counted (stepsOf (delannoy n m)) delannoyGrid Dl (delannoy-plain n m) D-agrees

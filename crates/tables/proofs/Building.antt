@@ -2,9 +2,9 @@
 --
 --   seek-here, seek-more, seek-end, seek-in, seek-start    the loop of `seek`
 --   unr, unr-start, unr-step     the steps of the edge of a number, the last one first
---   via-pos, W-in                where there are walks, the step and the spot are inside
+--   via-pos, walks-in                where there are walks, the step and the spot are inside
 --   write-turn, write-done       a byte written in front of the others, and all of them
---   Writing, writing-start, reads-of, left-of, Written, written, write-as, write-from, writing-end    the loop of `spell`
+--   Writing, writing-start, reads-of, left-of, seek-needs, Written, written, picked, write-as, write-from, writing-end    the loop of `spell`
 use mathlib.Core.Path.{_≡_, refl, sym, ap, ap₂, _∙_}
 use mathlib.Core.Bool.{Bool}
 use mathlib.Core.Option.{Option, some}
@@ -24,20 +24,21 @@ use Rattle.backward.specs.Reader.{count, unrank}
 use Rattle.backward.specs.Grid.{Spot, grid, paths}
 use Rattle.backward.proofs.Backward.{unrank-start, unrank-step}
 use Rattle.backward.proofs.Grids.{grid-lawful}
-use Rattle.tables.specs.Form.{wall, stepsIn, spot, W, via}
+use Rattle.tables.specs.Form.{wall, stepsIn, spot, walksTo, via}
 use Rattle.letters.specs.Letters.{glyphOf}
 use Rattle.tables.specs.Cells.{place, sourceOf}
 use Rattle.tables.specs.declared.Plan as plans
 use Rattle.tables.specs.Table.{Slopes}
-use Rattle.tables.specs.Edges.{endOf, edgeOf, Reads, Sought}
+use Rattle.tables.specs.Edges.{walkEnd, walkOf, broughtAt, Summed, Reads, Sought}
 use Rattle.tables.specs.Plans.{walksFor, edgeFor}
-use Rattle.tables.specs.Filling.{Full}
+use Rattle.tables.specs.Filling.{Readable}
 use Rattle.tables.proofs.Walls.{tested, wall-start}
 use Rattle.tables.proofs.Columns.{source-in}
-use Rattle.tables.proofs.Laws.{onward, sum-more, via-in, via-left, via-under, W-start, W-out, W-step}
+use Rattle.tables.proofs.Laws.{onward, sum-more, via-in, via-left, via-under, walks-start, walks-out, walks-step}
 use Rattle.tables.proofs.Counts.{pos-of}
 use Rattle.tables.proofs.Reading.{back-is, end-in}
-use Rattle.tables.proofs.Numbers.{brought, Stand, reads-at, stand-back}
+use Rattle.tables.proofs.Numbers.{brought, Stand, reads-at, stand-back, reads-sum, reads-summed, reads-sought}
+use Rattle.tables.specs.declared.Wall.{Wall}
 
 -- ---- the loop of `seek`: i steps are passed, which stand for all of r but left
 
@@ -66,28 +67,28 @@ falls-cong g h k r l e p =
     let s : sum g l ≡ sum h l = sum-cong g h l (λ j _. e j) in
     record { inside = p .inside; low = omega (arith, p .low); high = omega (arith, p .high, e l) }
 
-unfoldable pub unr : ℕ → ℕ → List ℕ → List ℕ → ℕ → ℕ → ℕ → List ℕ
-unr k f sa sc x y r = unrank (grid (stepsIn k f sa sc)) (endOf k f sa sc x y) r
+unfoldable pub unr : ℕ → Wall → List ℕ → List ℕ → ℕ → ℕ → ℕ → List ℕ
+unr k f sa sc x y r = unrank (grid (stepsIn k f sa sc)) (walkEnd k f sa sc x y) r
 
-module _ (k f : ℕ) (sa sc : List ℕ) (pos : (i : ℕ) → i < k → 1 ≤ getD sa i 0) where
-  count-in : (x y : ℕ) → T (wall f x y) → count (grid (stepsIn k f sa sc)) (some (spot x y)) ≡ W k f sa sc x y
-  unfolding W paths
+module _ (k : ℕ) (f : Wall) (sa sc : List ℕ) (pos : (i : ℕ) → i < k → 1 ≤ getD sa i 0) where
+  count-in : (x y : ℕ) → T (wall f x y) → count (grid (stepsIn k f sa sc)) (some (spot x y)) ≡ walksTo k f sa sc x y
+  unfolding walksTo paths
   count-in x y h = ap (count (grid (stepsIn k f sa sc))) (sym (end-in k f sa sc x y h))
 
-  at-zero : (y r : ℕ) → r < W k f sa sc 0 y → y ≡ 0
+  at-zero : (y r : ℕ) → r < walksTo k f sa sc 0 y → y ≡ 0
   at-zero zero r h = refl
-  at-zero (suc y) r h = let e : W k f sa sc 0 (suc y) ≡ 0 = W-start k f sa sc pos (suc y) ∙ rw (ne-eqb (suc y) 0 (λ q. omega arith)) in absurd (omega arith)
+  at-zero (suc y) r h = let e : walksTo k f sa sc 0 (suc y) ≡ 0 = walks-start k f sa sc pos (suc y) ∙ rw (ne-eqb (suc y) 0 (λ q. omega arith)) in absurd (omega arith)
 
-  start-at : (r : ℕ) → r < W k f sa sc 0 0 → unr k f sa sc 0 0 r ≡ []
+  start-at : (r : ℕ) → r < walksTo k f sa sc 0 0 → unr k f sa sc 0 0 r ≡ []
   unfolding unr
   start-at r h =
       ap (λ (m : Option Spot). unrank (grid (stepsIn k f sa sc)) m r) (end-in k f sa sc 0 0 (wall-start f))
       ∙ unrank-start (grid (stepsIn k f sa sc)) (grid-lawful (stepsIn k f sa sc) (onward k f sa sc pos)) (spot 0 0) r tt (omega (arith, count-in 0 0 (wall-start f)))
 
-  pub unr-start : (x y r : ℕ) → x ≤ 0 → r < W k f sa sc x y → unr k f sa sc x y r ≡ []
+  pub unr-start : (x y r : ℕ) → x ≤ 0 → r < walksTo k f sa sc x y → unr k f sa sc x y r ≡ []
   unr-start x y r l h =
       let z : x ≡ 0 = omega arith in
-      let h′ : r < W k f sa sc 0 y = rw z at h in
+      let h′ : r < walksTo k f sa sc 0 y = rw z at h in
       let n : y ≡ 0 = at-zero y r h′ in
       rw (z, n) (start-at r (rw n at h′))
 
@@ -102,7 +103,7 @@ module _ (k f : ℕ) (sa sc : List ℕ) (pos : (i : ℕ) → i < k → 1 ≤ get
       ∙ ap (λ (w : List ℕ). l ∷ w) (ap₂ (unrank (grid (stepsIn k f sa sc))) (back-is k f sa sc x y l a c) q)
 
   -- a step that brings something comes from inside the table
-  pub via-pos : (x y l rest : ℕ) → rest < via k f sa sc x y l → (getD sa l 0 ≤ x) × (getD sc l 0 ≤ y) × (rest < W k f sa sc (x - getD sa l 0) (y - getD sc l 0))
+  pub via-pos : (x y l rest : ℕ) → rest < via k f sa sc x y l → (getD sa l 0 ≤ x) × (getD sc l 0 ≤ y) × (rest < walksTo k f sa sc (x - getD sa l 0) (y - getD sc l 0))
   via-pos x y l rest h = elim (decLe (getD sa l 0) x) [
     | yes a ↦ elim (decLe (getD sc l 0) y) [
       | yes c ↦ (a, c, omega (arith, via-in k f sa sc x y l a c))
@@ -111,8 +112,8 @@ module _ (k f : ℕ) (sa sc : List ℕ) (pos : (i : ℕ) → i < k → 1 ≤ get
     | no r ↦ absurd (omega (arith, via-left k f sa sc x y l (omega arith)))
   ]
 
-  pub W-in : (x y r : ℕ) → r < W k f sa sc x y → T (wall f x y)
-  W-in x y r h = elim (tested (wall f x y)) [ yes p ↦ p | no q ↦ absurd (omega (arith, W-out k f sa sc pos x y q)) ]
+  pub walks-in : (x y r : ℕ) → r < walksTo k f sa sc x y → T (wall f x y)
+  walks-in x y r h = elim (tested (wall f x y)) [ yes p ↦ p | no q ↦ absurd (omega (arith, walks-out k f sa sc pos x y q)) ]
 
 -- ---- bytes written at the end of a buffer
 
@@ -132,13 +133,13 @@ write-done buf t u s n e = sym (reverse-reverse (drop s buf)) ∙ ap reverse (sy
 -- ---- the loop of `spell`
 
 pub record Writing (lettered : Bool) (p : plans.Plan) (sa sc off val : List ℕ) (r : ℕ) (buf₀ buf : List ℕ) (x y cell left s : ℕ) : Type 0 where
-  pub full : Full p sa sc off val
+  pub full : Readable p sa sc off val
   pub stand : Stand p sa sc x y cell
-  pub less : left < W (p .k) (p .f) sa sc x y
+  pub less : left < walksTo (p .k) (p .wall) sa sc x y
   pub x-le : x ≤ s
   pub s-le : s ≤ 128
   pub room : length buf ≡ 128
-  pub so-far : reverse (drop s buf) ++ map (glyphOf lettered) (unr (p .k) (p .f) sa sc x y left) ≡ map (glyphOf lettered) (unr (p .k) (p .f) sa sc (p .ex) (p .ey) r)
+  pub so-far : reverse (drop s buf) ++ map (glyphOf lettered) (unr (p .k) (p .wall) sa sc x y left) ≡ map (glyphOf lettered) (unr (p .k) (p .wall) sa sc (p .ex) (p .ey) r)
 
 pub record Written (lettered : Bool) (p : plans.Plan) (sa sc off val : List ℕ) (r : ℕ) (buf₀ buf : List ℕ) (x y cell s l rest : ℕ) : Type 0 where
   pub below : l < 8
@@ -162,7 +163,7 @@ pub write-from : {lettered : Bool} {p : plans.Plan} {sa sc off val : List ℕ} {
 write-from {sa = sa} {off = off} {x = x} {cell = cell} {l = l} t e ev = rw (e ∙ source-in sa off x cell l (t .right)) (t .next _ ev)
 
 module _ {lettered : Bool} {p : plans.Plan} {sa sc off val : List ℕ} {r : ℕ} {buf₀ : List ℕ} where
-  pub writing-start : Full p sa sc off val → r < walksFor p sa sc → length buf₀ ≡ 128 → (cell : ℕ) → cell ≡ place (p .m) (p .ey) (p .ex) (p .ey) → Writing lettered p sa sc off val r buf₀ buf₀ (p .ex) (p .ey) cell r 128
+  pub writing-start : Readable p sa sc off val → r < walksFor p sa sc → length buf₀ ≡ 128 → (cell : ℕ) → cell ≡ place (p .deep) (p .ey) (p .ex) (p .ey) → Writing lettered p sa sc off val r buf₀ buf₀ (p .ex) (p .ey) cell r 128
   writing-start fu less long cell ep = record {
     full = fu;
     stand = record { end = omega arith; ends = (omega arith, omega arith); at = ep; fits = fu .fits };
@@ -174,28 +175,31 @@ module _ {lettered : Bool} {p : plans.Plan} {sa sc off val : List ℕ} {r : ℕ}
   }
 
   module _ {buf : List ℕ} {x y cell left s : ℕ} (w : Writing lettered p sa sc off val r buf₀ buf x y cell left s) where
-    plan-of : Slopes (p .k) sa sc (p .hi) (p .m) (p .ex)
+    plan-of : Slopes (p .k) sa sc (p .hi) (p .deep) (p .ex)
     plan-of = w .full .ready .slopes
 
     pub writing-end : x ≤ 0 → (s ≤ 128) × (drop s buf ≡ edgeFor lettered p sa sc r)
-    unfolding edgeOf unr
+    unfolding walkOf unr
     writing-end h = (
       w .s-le,
-      write-done buf _ (map (glyphOf lettered) (unr (p .k) (p .f) sa sc (p .ex) (p .ey) r)) s (ap (map (glyphOf lettered)) (unr-start (p .k) (p .f) sa sc (pos-of plan-of) x y left h (w .less))) (w .so-far)
-          ∙ map-reverse (glyphOf lettered) (unr (p .k) (p .f) sa sc (p .ex) (p .ey) r),
+      write-done buf _ (map (glyphOf lettered) (unr (p .k) (p .wall) sa sc (p .ex) (p .ey) r)) s (ap (map (glyphOf lettered)) (unr-start (p .k) (p .wall) sa sc (pos-of plan-of) x y left h (w .less))) (w .so-far)
+          ∙ map-reverse (glyphOf lettered) (unr (p .k) (p .wall) sa sc (p .ex) (p .ey) r),
     )
 
     module _ (px : 0 < x) where
-      inside-of : T (wall (p .f) x y)
-      inside-of = W-in (p .k) (p .f) sa sc (pos-of plan-of) x y left (w .less)
+      inside-of : T (wall (p .wall) x y)
+      inside-of = walks-in (p .k) (p .wall) sa sc (pos-of plan-of) x y left (w .less)
 
-      pub reads-of : Reads (p .k) (p .f) sa sc off val x y cell
+      pub reads-of : Reads (p .k) (p .wall) sa sc off val x y cell
       reads-of = reads-at (w .full) (w .stand) px inside-of
 
-      pub left-of : left < sum (via (p .k) (p .f) sa sc x y) (p .k)
-      left-of = omega (arith, w .less, W-step (p .k) (p .f) sa sc (pos-of plan-of) x y px inside-of)
+      pub left-of : left < sum (via (p .k) (p .wall) sa sc x y) (p .k)
+      left-of = omega (arith, w .less, walks-step (p .k) (p .wall) sa sc (pos-of plan-of) x y px inside-of)
 
-      pub written : (l rest : ℕ) → Sought (via (p .k) (p .f) sa sc x y) (p .k) left l rest → Written lettered p sa sc off val r buf₀ buf x y cell s l rest
+      pub seek-needs : Summed (p .k) sa off val x cell × (left < sum (broughtAt sa off val x cell) (p .k))
+      seek-needs = (reads-summed reads-of (p .k) (omega arith), omega (arith, left-of, reads-sum reads-of (p .k) (omega arith)))
+
+      pub written : (l rest : ℕ) → Sought (via (p .k) (p .wall) sa sc x y) (p .k) left l rest → Written lettered p sa sc off val r buf₀ buf x y cell s l rest
       written l rest so = record {
         below = omega (arith, plan-of .most, so .falls .inside);
         byte = omega (arith, plan-of .most, so .falls .inside);
@@ -212,15 +216,19 @@ module _ {lettered : Bool} {p : plans.Plan} {sa sc off val : List ℕ} {r : ℕ}
           x-le = omega (arith, w .x-le, go-on);
           s-le = omega (arith, w .s-le);
           room = simp length-set (w .room);
-          so-far = write-turn buf s v (map (glyphOf lettered) (unr (p .k) (p .f) sa sc x y left)) _ (omega (arith, w .x-le)) (omega (arith, w .s-le, w .room)) (letters v ev) ∙ w .so-far;
+          so-far = write-turn buf s v (map (glyphOf lettered) (unr (p .k) (p .wall) sa sc x y left)) _ (omega (arith, w .x-le)) (omega (arith, w .s-le, w .room)) (letters v ev) ∙ w .so-far;
         };
       }
         where
-          vp : (getD sa l 0 ≤ x) × (getD sc l 0 ≤ y) × (rest < W (p .k) (p .f) sa sc (x - getD sa l 0) (y - getD sc l 0))
-          vp = via-pos (p .k) (p .f) sa sc (pos-of plan-of) x y l rest (omega (arith, so .left, so .falls .high))
+          vp : (getD sa l 0 ≤ x) × (getD sc l 0 ≤ y) × (rest < walksTo (p .k) (p .wall) sa sc (x - getD sa l 0) (y - getD sc l 0))
+          vp = via-pos (p .k) (p .wall) sa sc (pos-of plan-of) x y l rest (omega (arith, so .left, so .falls .high))
 
           go-on : 1 ≤ getD sa l 0
           go-on = pos-of plan-of l (so .falls .inside)
 
-          letters : (v : ℕ) → v ≡ glyphOf lettered l → map (glyphOf lettered) (unr (p .k) (p .f) sa sc x y left) ≡ v ∷ map (glyphOf lettered) (unr (p .k) (p .f) sa sc (x - getD sa l 0) (y - getD sc l 0) rest)
-          letters v ev = ap (map (glyphOf lettered)) (unr-step (p .k) (p .f) sa sc (pos-of plan-of) x y left l rest inside-of so (vp .0) (vp .1)) ∙ ap (λ (z : ℕ). z ∷ map (glyphOf lettered) (unr (p .k) (p .f) sa sc (x - getD sa l 0) (y - getD sc l 0) rest)) (sym ev)
+          letters : (v : ℕ) → v ≡ glyphOf lettered l → map (glyphOf lettered) (unr (p .k) (p .wall) sa sc x y left) ≡ v ∷ map (glyphOf lettered) (unr (p .k) (p .wall) sa sc (x - getD sa l 0) (y - getD sc l 0) rest)
+          letters v ev = ap (map (glyphOf lettered)) (unr-step (p .k) (p .wall) sa sc (pos-of plan-of) x y left l rest inside-of so (vp .0) (vp .1)) ∙ ap (λ (z : ℕ). z ∷ map (glyphOf lettered) (unr (p .k) (p .wall) sa sc (x - getD sa l 0) (y - getD sc l 0) rest)) (sym ev)
+
+      -- by the step that `seek` finds
+      pub picked : {l rest : ℕ} → Sought (broughtAt sa off val x cell) (p .k) left l rest → Written lettered p sa sc off val r buf₀ buf x y cell s l rest
+      picked {l} {rest} so = written l rest (reads-sought reads-of so)

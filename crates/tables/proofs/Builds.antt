@@ -26,7 +26,6 @@ use Rattle.rules.specs.Refusals.Answer.{accepted}
 use Rattle.rules.specs.Answers.{most, written}
 use Rattle.rules.specs.Packs.{joined}
 use Rattle.rules.specs.Questions.{allBelow}
-use Rattle.rules.proofs.Ranges.{InRange}
 use Rattle.rules.proofs.Belows.{below-at, below-not}
 use Rattle.job.specs.Replies.{BuiltAs}
 use Rattle.job.specs.declared.Built.{Built}
@@ -34,13 +33,12 @@ use Rattle.job.specs.declared.Built.the-variants.{Length, Refused}
 use Rattle.lines.specs.Lines.{endsFrom, lined, LinedAs}
 use Rattle.lines.proofs.Lining.{Lining, lining-next, lined-refused}
 use Rattle.tables.specs.Edges as edges
-use Rattle.tables.specs.Shapes.{isLettered, Fits}
+use Rattle.tables.specs.Shapes.{Fits}
 use Rattle.tables.specs.Spelling.{Front, edgesFor}
 use Rattle.lines.specs.Known.{edgesOf, BuildsOf}
 use Rattle.tables.specs.Plans.{PlanOf, walksFor, ListsFor, BuildsFor}
 use Rattle.tables.specs.declared.Plan.{Plan}
 use Rattle.tables.specs.declared.Shape.{Shape}
-use Rattle.tables.proofs.Gridded.{gridded}
 use Rattle.tables.proofs.Worded.{shape-spells}
 use Rattle.tables.proofs.Counted.{plan-count}
 
@@ -68,12 +66,12 @@ below-told ns w c t e q = sym (q ∙ ap (λ (z : ℕ). allBelow z ns) e)
 module _ (lettered : Bool) (p : Plan) (sa sc ns steps ends : List ℕ) where
   pub for-over : 2 ^ 64 ≤ walksFor p sa sc → BuildsFor lettered p sa sc ns steps ends steps ends (Refused 4)
   unfolding refusalNumber
-  for-over l = lined-refused (edgesFor lettered (p .k) (p .f) sa sc (p .ex) (p .ey) ns) over 4 steps ends (rw (lt-leb (walksFor p sa sc) most (omega arith)) refl) refl
+  for-over l = lined-refused (edgesFor lettered (p .k) (p .wall) sa sc (p .ex) (p .ey) ns) over 4 steps ends (rw (lt-leb (walksFor p sa sc) most (omega arith)) refl) refl
 
   pub for-beyond : walksFor p sa sc < 2 ^ 64 → allBelow (walksFor p sa sc) ns ≡ false → BuildsFor lettered p sa sc ns steps ends steps ends (Refused 6)
   unfolding refusalNumber
   for-beyond l e =
-      lined-refused (edgesFor lettered (p .k) (p .f) sa sc (p .ex) (p .ey) ns) beyond 6 steps ends (rw (le-leb (walksFor p sa sc) most (omega arith), e) refl) refl
+      lined-refused (edgesFor lettered (p .k) (p .wall) sa sc (p .ex) (p .ey) ns) beyond 6 steps ends (rw (le-leb (walksFor p sa sc) most (omega arith), e) refl) refl
 
   pub for-all : (n : ℕ) (s t : List ℕ) → walksFor p sa sc < 2 ^ 64 → allBelow (walksFor p sa sc) ns ≡ true
       → ListsFor lettered p sa sc ns steps ends s t n → BuildsFor lettered p sa sc ns steps ends s t (Length n)
@@ -106,18 +104,18 @@ same-edges g h c [] e l = refl
 same-edges g h c (n ∷ ns) e l =
     ap (λ (z : List ℕ). z ∷ map g ns) (e n (l 0 (omega arith))) ∙ ap (λ (z : List (List ℕ)). h n ∷ z) (same-edges g h c ns e (λ i b. l (suc i) (omega arith)))
 
-module _ (J : rules.Job) (s : Shape) (r : InRange J) (f : Fits J s) {lettered : Bool} {p : Plan} (po : PlanOf s p) (c : isLettered J ≡ lettered) where
-  plan-edges : (ns : List ℕ) → edgesFor lettered (p .k) (p .f) (s .sa) (s .sc) (p .ex) (p .ey) ns ≡ edgesOf J ns
-  plan-edges ns = rw (plan-count J s r f po, ← c, po .k-is, po .f-is, po .ex-is, po .ey-is) (go (allBelow (countOf J) ns) refl)
+module _ (J : rules.Job) (s : Shape) {lettered : Bool} (f : Fits J lettered s) {p : Plan} (po : PlanOf s p) where
+  plan-edges : (ns : List ℕ) → edgesFor lettered (p .k) (p .wall) (s .sa) (s .sc) (p .ex) (p .ey) ns ≡ edgesOf J ns
+  plan-edges ns = rw (plan-count J s f po, po .k-is, po .wall-is, po .ex-is, po .ey-is) (go (allBelow (countOf J) ns) refl)
     where
       by : ℕ → List ℕ
-      by = edges.edgeOf (isLettered J) (s .k) (s .f) (s .sa) (s .sc) (s .ex) (s .ey)
+      by = edges.walkOf lettered (s .k) (s .wall) (s .sa) (s .sc) (s .ex) (s .ey)
 
       go : (t : Bool) → allBelow (countOf J) ns ≡ t
           → check (leb (countOf J) most) over (check t beyond (accepted (map by ns))) ≡ check (leb (countOf J) most) over (check t beyond (accepted (map (edgeOf J) ns)))
       go true e =
           ap (λ (z : List (List ℕ)). check (leb (countOf J) most) over (accepted z))
-          (same-edges by (edgeOf J) (countOf J) ns (shape-spells (gridded J r (f .end) (f .sits)) s (f .shows)) (below-at (countOf J) ns (holds e)))
+          (same-edges by (edgeOf J) (countOf J) ns (shape-spells (f .gridded) s (f .shows)) (below-at (countOf J) ns (holds e)))
       go false e = refl
 
   pub plan-builds : (ns steps ends : List ℕ) (x : Built) (t u : List ℕ) → BuildsFor lettered p (s .sa) (s .sc) ns steps ends t u x → BuildsOf J ns steps ends t u x

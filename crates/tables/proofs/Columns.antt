@@ -21,12 +21,13 @@ use borrow.Author.Count.{below-more}
 use borrow.Author.Tests.{lt-ltb, le-ltb}
 use Rattle.howmany.specs.Sum.{sum}
 use Rattle.howmany.proofs.Sums.{sum-cong}
-use Rattle.tables.specs.Form.{wall, W, via}
+use Rattle.tables.specs.Form.{wall, walksTo, via}
 use Rattle.tables.specs.Cells.{strideOf, place, sourceOf, colOf, Run, Column}
 use Rattle.tables.specs.Table.{Offsets, Slopes, Ends, From, To, Cells, Sheet, Table, Small}
 use Rattle.tables.proofs.Walls.{tested, wall-in}
-use Rattle.tables.proofs.Laws.{sum-le, via-any, via-left, via-under, via-in, W-out}
-use Rattle.tables.proofs.Counts.{pos-of, W-high, W-first, W-pow}
+use Rattle.tables.proofs.Laws.{sum-le, via-any, via-left, via-under, via-in, walks-out}
+use Rattle.tables.proofs.Counts.{pos-of, walks-high, walks-first, walks-pow}
+use Rattle.tables.specs.declared.Wall.{Wall}
 
 module _ (sa off : List ℕ) (x p i : ℕ) where
   pub source-left : x < getD sa i 0 → sourceOf sa off x p i ≡ 0
@@ -54,7 +55,7 @@ ends-back {sa = sa} {hi = hi} {ex = ex} pl ey x y i lx en l ha hc =
     let e : ex - (x - getD sa i 0) ≡ ex - x + getD sa i 0 = omega arith in
     (omega (arith, en .0), omega (arith, en .1, pl .steep i l (omega arith), mul-add hi (ex - x) (getD sa i 0), ap (λ (z : ℕ). hi * z) e))
 
-module _ {k f : ℕ} {sa sc off : List ℕ} {hi m ex ey : ℕ} (pl : Slopes k sa sc hi m ex) (of : Offsets sa sc off (strideOf m ey)) {A : Type 0} {T : ℕ → A} {at : ℕ → A} {x : ℕ} (tb : Cells T at k f sa sc hi m ex ey x) (px : 1 ≤ x) (lx : x ≤ ex) where
+module _ {k : ℕ} {f : Wall} {sa sc off : List ℕ} {hi m ex ey : ℕ} (pl : Slopes k sa sc hi m ex) (of : Offsets sa sc off (strideOf m ey)) {A : Type 0} {T : ℕ → A} {at : ℕ → A} {x : ℕ} (tb : Cells T at k f sa sc hi m ex ey x) (px : 1 ≤ x) (lx : x ≤ ex) where
   -- what stands where a step comes from
   module _ (from t i : ℕ) (li : i < 8) (le : from + t ≤ ey) (en : 6 * ey ≤ 6 * (from + t) + hi * (ex - x)) where
     a : ℕ
@@ -88,19 +89,19 @@ module _ {k f : ℕ} {sa sc off : List ℕ} {hi m ex ey : ℕ} (pl : Slopes k sa
 
   -- a height that matters and isn't in the run has no walks
   module _ (from to : ℕ) (fr : From f hi ex ey x from) (up : To f hi ey x to) where
-    pub none-below : (y : ℕ) → Ends hi ex ey x y → y < from → W k f sa sc x y ≡ 0
-    none-below y en l = W-out k f sa sc (pos-of pl) x y (fr .least y l (en .1))
+    pub none-below : (y : ℕ) → Ends hi ex ey x y → y < from → walksTo k f sa sc x y ≡ 0
+    none-below y en l = walks-out k f sa sc (pos-of pl) x y (fr .least y l (en .1))
 
-    pub none-above : (y : ℕ) → Ends hi ex ey x y → to ≤ y → W k f sa sc x y ≡ 0
+    pub none-above : (y : ℕ) → Ends hi ex ey x y → to ≤ y → walksTo k f sa sc x y ≡ 0
     none-above y en l = elim (tested (wall f x y)) [
-      | yes t ↦ W-high k f sa sc pl x x y (omega arith) lx (up .beyond y l (en .0) t)
-      | no t ↦ W-out k f sa sc (pos-of pl) x y t
+      | yes t ↦ walks-high k f sa sc pl x x y (omega arith) lx (up .beyond y l (en .0) t)
+      | no t ↦ walks-out k f sa sc (pos-of pl) x y t
     ]
 
     -- the table after a column
     module _ (blank : (j : ℕ) → (x + 1) * strideOf m ey ≤ j → at j ≡ T 0) (at′ : ℕ → A) (before : (j : ℕ) → j < place m ey x from → at′ j ≡ at j) (after : (j : ℕ) → place m ey x to ≤ j → at′ j ≡ at j)
-        (here : (y : ℕ) → from ≤ y → y < to → at′ (place m ey x y) ≡ T (W k f sa sc x y)) where
-      at-x : (y : ℕ) → Ends hi ex ey x y → at′ (place m ey x y) ≡ T (W k f sa sc x y)
+        (here : (y : ℕ) → from ≤ y → y < to → at′ (place m ey x y) ≡ T (walksTo k f sa sc x y)) where
+      at-x : (y : ℕ) → Ends hi ex ey x y → at′ (place m ey x y) ≡ T (walksTo k f sa sc x y)
       at-x y en =
           elim (decLt y from) [
             | yes l ↦ before (place m ey x y) (omega arith) ∙ blank (place m ey x y) (omega arith) ∙ ap T (sym (none-below y en l))
@@ -113,7 +114,7 @@ module _ {k f : ℕ} {sa sc off : List ℕ} {hi m ex ey : ℕ} (pl : Slopes k sa
       pub sheet-next : Sheet T at′ k f sa sc hi m ex ey (x + 1)
       sheet-next = record {
         cells = record {
-          right = λ u y l en. below-more (λ u. (y : ℕ) → Ends hi ex ey u y → at′ (place m ey u y) ≡ T (W k f sa sc u y)) x
+          right = λ u y l en. below-more (λ u. (y : ℕ) → Ends hi ex ey u y → at′ (place m ey u y) ≡ T (walksTo k f sa sc u y)) x
               (λ u h y en. before (place m ey u y) (omega (arith, en .0, one-more (strideOf m ey) (u + 1), grow (strideOf m ey) (u + 1 + 1) (x + 1) (omega arith))) ∙ tb .right u y h en) at-x u l y en;
           margin = λ u t l. elim (decLe u (x + 1)) [
             | yes h ↦ before (u * strideOf m ey + t) (omega (arith, grow (strideOf m ey) u (x + 1) h)) ∙ tb .margin u t l
@@ -128,7 +129,7 @@ module _ {k f : ℕ} {sa sc off : List ℕ} {hi m ex ey : ℕ} (pl : Slopes k sa
     pub sheet-same : ((j : ℕ) → (x + 1) * strideOf m ey ≤ j → at j ≡ T 0) → to ≤ from → Sheet T at k f sa sc hi m ex ey (x + 1)
     sheet-same blank le = sheet-next blank at (λ j l. refl) (λ j l. refl) (λ y p q. absurd (omega arith))
 
-module _ {k f : ℕ} {sa sc off : List ℕ} {hi m ex ey : ℕ} (pl : Slopes k sa sc hi m ex) (of : Offsets sa sc off (strideOf m ey)) (val : List ℕ) {x : ℕ} (tb : Table k f sa sc hi m ex ey val x) (px : 1 ≤ x) (lx : x ≤ ex) where
+module _ {k : ℕ} {f : Wall} {sa sc off : List ℕ} {hi m ex ey : ℕ} (pl : Slopes k sa sc hi m ex) (of : Offsets sa sc off (strideOf m ey)) (val : List ℕ) {x : ℕ} (tb : Table k f sa sc hi m ex ey val x) (px : 1 ≤ x) (lx : x ≤ ex) where
   module _ (n : ℕ) (n-pos : 1 ≤ n) (n-le : n ≤ 8) (gone : (i : ℕ) → n ≤ i → i < 8 → ex < getD sa i 0) (from to : ℕ) (fr : From f hi ex ey x from) (up : To f hi ey x to) where
     ends-at : (t : ℕ) → from + t < to → Ends hi ex ey x (from + t)
     ends-at t l = (omega (arith, up .under), omega (arith, fr .ends))
@@ -136,8 +137,8 @@ module _ {k f : ℕ} {sa sc off : List ℕ} {hi m ex ey : ℕ} (pl : Slopes k sa
     sums : (t : ℕ) → from + t < to → colOf n val sa off x (place m ey x from) t ≡ sum (via k f sa sc x (from + t)) n
     sums t l = sum-cong _ _ n (λ i li. brings pl of (tb .cells) px lx from t i (omega arith) (ends-at t l .0) (ends-at t l .1))
 
-    sums-are : (t : ℕ) → from + t < to → colOf n val sa off x (place m ey x from) t ≡ W k f sa sc x (from + t)
-    sums-are t l = sums t l ∙ sym (W-first k f sa sc pl n n-pos n-le gone x (from + t) px lx (wall-in fr up (from + t) (omega arith) l))
+    sums-are : (t : ℕ) → from + t < to → colOf n val sa off x (place m ey x from) t ≡ walksTo k f sa sc x (from + t)
+    sums-are t l = sums t l ∙ sym (walks-first k f sa sc pl n n-pos n-le gone x (from + t) px lx (wall-in fr up (from + t) (omega arith) l))
 
     pub run-of : from < to → (ex + 2) * strideOf m ey ≤ length val → Small k f sa sc hi ex ey x → Run n val sa off x (place m ey x from) (to - from)
     run-of lt room sm = record {
@@ -155,17 +156,17 @@ module _ {k f : ℕ} {sa sc off : List ℕ} {hi m ex ey : ℕ} (pl : Slopes k sa
       ));
     }
 
-  small-next : Small k f sa sc hi ex ey x → ((y : ℕ) → Ends hi ex ey x y → W k f sa sc x y ≤ 2305843009213693951) → Small k f sa sc hi ex ey (x + 1)
+  small-next : Small k f sa sc hi ex ey x → ((y : ℕ) → Ends hi ex ey x y → walksTo k f sa sc x y ≤ 2305843009213693951) → Small k f sa sc hi ex ey (x + 1)
   small-next sm all = record {
-    small = λ u y l en. below-more (λ u. (y : ℕ) → Ends hi ex ey u y → W k f sa sc u y ≤ 2305843009213693951) x (λ u h y en. sm .small u y h en) all u l y en;
+    small = λ u y l en. below-more (λ u. (y : ℕ) → Ends hi ex ey u y → walksTo k f sa sc u y ≤ 2305843009213693951) x (λ u h y en. sm .small u y h en) all u l y en;
   }
 
   pub pow-small : (n : ℕ) → 1 ≤ n → n ≤ 8 → ((i : ℕ) → n ≤ i → i < 8 → ex < getD sa i 0) → (top : ℕ) → n ^ top ≤ 2305843009213693951 → x ≤ top → Small k f sa sc hi ex ey x → Small k f sa sc hi ex ey (x + 1)
-  pow-small n n-pos n-le gone top le l sm = small-next sm (λ y en. le-trans (W-pow k f sa sc pl n n-pos n-le gone top x y l lx) le)
+  pow-small n n-pos n-le gone top le l sm = small-next sm (λ y en. le-trans (walks-pow k f sa sc pl n n-pos n-le gone top x y l lx) le)
 
   module _ (from to : ℕ) (fr : From f hi ex ey x from) (up : To f hi ey x to) where
     -- no sum is large if none of the run is
-    run-small : Small k f sa sc hi ex ey x → ((y : ℕ) → from ≤ y → y < to → W k f sa sc x y ≤ 2305843009213693951) → Small k f sa sc hi ex ey (x + 1)
+    run-small : Small k f sa sc hi ex ey x → ((y : ℕ) → from ≤ y → y < to → walksTo k f sa sc x y ≤ 2305843009213693951) → Small k f sa sc hi ex ey (x + 1)
     run-small sm here = small-next sm (λ y en. elim (decLt y from) [
       | yes l ↦ omega (arith, none-below pl of (tb .cells) px lx from to fr up y en l)
       | no l ↦ elim (decLe to y) [ yes q ↦ omega (arith, none-above pl of (tb .cells) px lx from to fr up y en q) | no q ↦ here y (omega arith) (omega arith) ]
@@ -173,11 +174,11 @@ module _ {k f : ℕ} {sa sc off : List ℕ} {hi m ex ey : ℕ} (pl : Slopes k sa
 
     -- the table after a column
     module _ (n : ℕ) (n-pos : 1 ≤ n) (n-le : n ≤ 8) (gone : (i : ℕ) → n ≤ i → i < 8 → ex < getD sa i 0) (lt : from < to) (val′ : List ℕ) (co : Column n val val′ sa off x (place m ey x from) (to - from)) where
-      here-at : (y : ℕ) → from ≤ y → y < to → getD val′ (place m ey x y) 0 ≡ W k f sa sc x y
+      here-at : (y : ℕ) → from ≤ y → y < to → getD val′ (place m ey x y) 0 ≡ walksTo k f sa sc x y
       here-at y p q =
           let e : from + (y - from) ≡ y = omega arith in
           let g : place m ey x y ≡ place m ey x from + (y - from) = omega arith in
-          rw g (co .here (y - from) (omega arith) ∙ sums-are n n-pos n-le gone from to fr up (y - from) (omega arith) ∙ ap (W k f sa sc x) e)
+          rw g (co .here (y - from) (omega arith) ∙ sums-are n n-pos n-le gone from to fr up (y - from) (omega arith) ∙ ap (walksTo k f sa sc x) e)
 
       pub column-table : Table k f sa sc hi m ex ey val′ (x + 1)
       column-table = sheet-next pl of (tb .cells) px lx from to fr up (tb .blank) (λ j. getD val′ j 0) (co .before) after-at here-at

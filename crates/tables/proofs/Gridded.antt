@@ -1,57 +1,32 @@
--- What the table's laws need of a job: its edges are the walks of its grid. A family of the grid is one value of `Gridded` and one line of
--- `gridded`, beside its line in `gridOf`, `Grids`, `Sits` and `isLettered`. Assumes nothing.
+-- The families of the grid: their edges are the walks of their grid. Assumes nothing.
 --
---   Agree k x y      two places are one, or neither is a step's
---   entered G q      the spot q, if the grid G lets a walk be there
---   Gridded J q      the edges of the job J are the walks of its grid to the spot q
 --   north-east-gridded, delannoy-gridded, directed-gridded    families 1, 3, and 6 and 7
---   gridded          every job whose end has a spot
 use mathlib.Core.Path.{_≡_, refl, sym, ap, _∙_}
 use mathlib.Core.Bool.{Bool, true, false}
-use mathlib.Core.Option.{Option}
 use mathlib.Core.List.{List, [], _∷_}
 use Prim.Native.Nat.{ℕ, suc, _+_, _-_, _≤_, _<_}
 use native.Mathlib.Decide.{decLt}
 use native.Mathlib.Omega.{arith}
-use lib.Dec.{T, ltb, eqb}
+use lib.Dec.{ltb, eqb}
 use lib.IntN.{ℤ, pos}
 use lib.ListN.{length}
 use borrow.Author.Tests.{lt-ltb, le-ltb, ne-eqb}
 use Rattle.howmany.specs.Choose.{pick}
 use Rattle.howmany.proofs.Cases.{two, three}
-use Rattle.backward.specs.Reader.{valid, rank, unrank}
-use Rattle.backward.specs.Walk.{enter}
-use Rattle.backward.specs.Grid.{Spot, Steps, grid, way, Onward, paths}
-use Rattle.rules.specs.Jobs as rules
+use Rattle.backward.specs.Grid.{Spot}
 use Rattle.rules.specs.Jobs.{Pair, one, numbered, stepsOf, endOf}
-use Rattle.rules.specs.Jobs.Job.{north-east, dyck, delannoy, schroder, motzkin, directed}
-use Rattle.rules.specs.Valid.{place, at, isEdge}
-use Rattle.rules.specs.Words.{wordOf, spelt}
+use Rattle.rules.specs.Jobs.Job.{north-east, delannoy, directed}
+use Rattle.rules.specs.Valid.{place, at}
 use Rattle.rules.specs.Counts.{L, Dl, W, countOf}
 use Rattle.rules.specs.Numbers.{raised, numberOf, edgeOf}
-use Rattle.rules.proofs.Ranges.{Small, InRange}
-use Rattle.rules.proofs.Shear.{gridOf, Plain, Slope}
+use Rattle.rules.proofs.Ranges.{Small}
+use Rattle.rules.proofs.Shear.{northEastGrid, delannoyGrid, slopeGrid, Plain, Slope}
 use Rattle.rules.proofs.Sheared.{walks-word, number-word, edge-word}
 use Rattle.rules.proofs.Plains.{north-east-shear, delannoy-shear, north-east-counted, delannoy-counted}
 use Rattle.rules.proofs.Slopes.{digit-at, digit-place, slope-shear, slope-counted}
 use Rattle.letters.specs.Letters.{placeOf, glyphOf}
-use Rattle.tables.specs.Shapes.{isLettered, Sits}
-
-pub data Agree (k x y : ℕ) : Type 0 where
-  same : x ≡ y → Agree k x y
-  both : k ≤ x → k ≤ y → Agree k x y
-
-abbrev pub entered : Steps → Spot → Option Spot
-entered G q = enter (grid G) (way G) q
-
-pub record Gridded (J : rules.Job) (q : Spot) : Type 0 where
-  pub places : (b : ℕ) → Agree (gridOf J .k) (placeOf (isLettered J) b) (place b (stepsOf J))
-  pub glyphs : (i : ℕ) → i < gridOf J .k → glyphOf (isLettered J) i ≡ at (stepsOf J) i .letter
-  pub onward : Onward (gridOf J)
-  pub walks : (e : List ℕ) → isEdge J e ≡ valid (grid (gridOf J)) (wordOf J e) (entered (gridOf J) q)
-  pub numbers : (e : List ℕ) → T (isEdge J e) → numberOf J e ≡ rank (grid (gridOf J)) (wordOf J e) (entered (gridOf J) q)
-  pub spells : (r : ℕ) → r < paths (gridOf J) q → edgeOf J r ≡ spelt J (unrank (grid (gridOf J)) (entered (gridOf J) q) r)
-  pub counts : countOf J ≡ paths (gridOf J) q
+use Rattle.tables.specs.Gridded.{Agree, Gridded}
+use Rattle.tables.specs.Gridded.Agree.{same, both}
 
 -- ---- letters: the code's places and the job's
 
@@ -92,7 +67,7 @@ digit-places ps b few = go (decLt b 49) (decLt 56 b) (decLt (b - 49) (length ps)
 plain-x : (n m : ℕ) (q : Spot) → Plain (record { x = n; y = pos m }) q → q .x ≤ n + m
 plain-x n m q c = let e : m ≡ q .y = cc in omega (arith, c .across)
 
-north-east-gridded : (n m : ℕ) (q : Spot) → Sits (north-east n m) q → Gridded (north-east n m) q
+pub north-east-gridded : (n m : ℕ) (q : Spot) → Plain (endOf (north-east n m)) q → Gridded (north-east n m) true northEastGrid q
 unfolding placeOf place glyphOf numberOf edgeOf countOf
 north-east-gridded n m q s =
     let J = north-east n m in
@@ -102,13 +77,13 @@ north-east-gridded n m q s =
       places = λ b. two-places (eqb b 78) (eqb b 69) (eqb b 68);
       glyphs = two (λ i. glyphOf true i ≡ at (stepsOf J) i .letter) refl refl;
       onward = H .onward;
-      walks = walks-word J (gridOf J) Plain H q s;
-      numbers = number-word J (gridOf J) Plain H (raised L) C q s;
-      spells = λ r l. edge-word J (gridOf J) Plain H (raised L) C q s (n + m) r (plain-x n m q s) l;
+      walks = walks-word J northEastGrid Plain H q s;
+      numbers = number-word J northEastGrid Plain H (raised L) C q s;
+      spells = λ r l. edge-word J northEastGrid Plain H (raised L) C q s (n + m) r (plain-x n m q s) l;
       counts = C .agrees (endOf J) q s;
     }
 
-delannoy-gridded : (n m : ℕ) (q : Spot) → Sits (delannoy n m) q → Gridded (delannoy n m) q
+pub delannoy-gridded : (n m : ℕ) (q : Spot) → Plain (endOf (delannoy n m)) q → Gridded (delannoy n m) true delannoyGrid q
 unfolding placeOf place glyphOf numberOf edgeOf countOf
 delannoy-gridded n m q s =
     let J = delannoy n m in
@@ -118,13 +93,14 @@ delannoy-gridded n m q s =
       places = λ b. three-places (eqb b 78) (eqb b 69) (eqb b 68);
       glyphs = three (λ i. glyphOf true i ≡ at (stepsOf J) i .letter) refl refl refl;
       onward = H .onward;
-      walks = walks-word J (gridOf J) Plain H q s;
-      numbers = number-word J (gridOf J) Plain H (raised Dl) C q s;
-      spells = λ r l. edge-word J (gridOf J) Plain H (raised Dl) C q s (n + m) r (plain-x n m q s) l;
+      walks = walks-word J delannoyGrid Plain H q s;
+      numbers = number-word J delannoyGrid Plain H (raised Dl) C q s;
+      spells = λ r l. edge-word J delannoyGrid Plain H (raised Dl) C q s (n + m) r (plain-x n m q s) l;
       counts = C .agrees (endOf J) q s;
     }
 
-pub directed-gridded : (f : Bool) (n : ℕ) (m : ℤ) (z : ℕ) (p : List Pair) → Small p → (q : Spot) → Sits (directed f n m z p) q → Gridded (directed f n m z p) q
+pub directed-gridded : (f : Bool) (n : ℕ) (m : ℤ) (z : ℕ) (p : List Pair) → Small p → (q : Spot) → Slope z (endOf (directed f n m z p)) q
+    → Gridded (directed f n m z p) false (slopeGrid f z p) q
 unfolding glyphOf numberOf edgeOf countOf
 directed-gridded f n m z p small q s =
     let J = directed f n m z p in
@@ -134,16 +110,8 @@ directed-gridded f n m z p small q s =
       places = λ b. digit-places p b (small .few);
       glyphs = λ i l. omega (arith, digit-at one p i l .letter);
       onward = H .onward;
-      walks = walks-word J (gridOf J) (Slope z) H q s;
-      numbers = number-word J (gridOf J) (Slope z) H (W f z p) C q s;
-      spells = λ r l. edge-word J (gridOf J) (Slope z) H (W f z p) C q s n r (omega (arith, s .across)) l;
+      walks = walks-word J (slopeGrid f z p) (Slope z) H q s;
+      numbers = number-word J (slopeGrid f z p) (Slope z) H (W f z p) C q s;
+      spells = λ r l. edge-word J (slopeGrid f z p) (Slope z) H (W f z p) C q s n r (omega (arith, s .across)) l;
       counts = C .agrees (endOf J) q s;
     }
-
-pub gridded : (J : rules.Job) → InRange J → (q : Spot) → Sits J q → Gridded J q
-gridded (north-east n m) r q s = north-east-gridded n m q s
-gridded (dyck n) r q s = absurd s
-gridded (delannoy n m) r q s = delannoy-gridded n m q s
-gridded (schroder n) r q s = absurd s
-gridded (motzkin n) r q s = absurd s
-gridded (directed f n m z p) r q s = directed-gridded f n m z p r q s

@@ -1,11 +1,11 @@
--- Laws of sums, of the counts W and of answers. Assumes nothing.
+-- Laws of sums, of the counts walksTo and of answers. Assumes nothing.
 --
 --   sum-more                         the sum with one term more
 --   sum-le                           terms of at most b
 --   sum-rest                         the terms from n on are 0
 --   mul-bound                        a bound of a product
 --   onward                           every step goes on, and the wall lets a walk begin
---   W-start, W-out, W-step           the counts of column 0, beyond the wall, and elsewhere
+--   walks-start, walks-out, walks-step           the counts of column 0, beyond the wall, and elsewhere
 --   via-left, via-under, via-in      what a step brings
 --   via-any                          what holds of 0 and of every count before holds of what a step brings
 --   cap-lt, cap-ge, cap-count, cap-over, count-over, cell-zero, cell-over, cell-value    answers
@@ -29,11 +29,12 @@ use Rattle.howmany.specs.Sum.{sum}
 use Rattle.howmany.proofs.Sums.{sum-suc, sum-mono}
 use Rattle.backward.specs.Grid.{Onward}
 use Rattle.backward.proofs.Grids.{paths-start, paths-step, paths-outside}
-use Rattle.tables.specs.declared.Answer.{Answer}
-use Rattle.tables.specs.declared.Answer.the-variants.{Count, Over}
-use Rattle.tables.specs.Form.{wall, stepsIn, spot, W, via}
+use Rattle.tables.specs.declared.Tally.{Tally}
+use Rattle.tables.specs.declared.Tally.the-variants.{Count, Over}
+use Rattle.tables.specs.Form.{wall, stepsIn, spot, walksTo, via}
 use Rattle.tables.specs.Cells.{capBy, capOf, cellOf, Put}
 use Rattle.tables.proofs.Walls.{wall-start}
+use Rattle.tables.specs.declared.Wall.{Wall}
 
 -- ---- sums
 
@@ -58,10 +59,10 @@ mul-bound a b p q h l = mul-le-mul h l
 
 -- ---- the counts
 
-pub onward : (k f : ℕ) (sa sc : List ℕ) → ((i : ℕ) → i < k → 1 ≤ getD sa i 0) → Onward (stepsIn k f sa sc)
+pub onward : (k : ℕ) (f : Wall) (sa sc : List ℕ) → ((i : ℕ) → i < k → 1 ≤ getD sa i 0) → Onward (stepsIn k f sa sc)
 onward k f sa sc pos = record { ahead = pos; begins = wall-start f }
 
-module _ (k f : ℕ) (sa sc : List ℕ) where
+module _ (k : ℕ) (f : Wall) (sa sc : List ℕ) where
   module _ (x y i : ℕ) where
     pub via-left : x < getD sa i 0 → via k f sa sc x y i ≡ 0
     unfolding via
@@ -71,11 +72,11 @@ module _ (k f : ℕ) (sa sc : List ℕ) where
     unfolding via
     via-under h l = rw (le-leb (getD sa i 0) x h, lt-leb (getD sc i 0) y l)
 
-    pub via-in : getD sa i 0 ≤ x → getD sc i 0 ≤ y → via k f sa sc x y i ≡ W k f sa sc (x - getD sa i 0) (y - getD sc i 0)
-    unfolding via W
+    pub via-in : getD sa i 0 ≤ x → getD sc i 0 ≤ y → via k f sa sc x y i ≡ walksTo k f sa sc (x - getD sa i 0) (y - getD sc i 0)
+    unfolding via walksTo
     via-in h l = rw (le-leb (getD sa i 0) x h, le-leb (getD sc i 0) y l)
 
-  pub via-any : (P : ℕ → Type 0) (x y i : ℕ) → P 0 → (getD sa i 0 ≤ x → getD sc i 0 ≤ y → P (W k f sa sc (x - getD sa i 0) (y - getD sc i 0))) → P (via k f sa sc x y i)
+  pub via-any : (P : ℕ → Type 0) (x y i : ℕ) → P 0 → (getD sa i 0 ≤ x → getD sc i 0 ≤ y → P (walksTo k f sa sc (x - getD sa i 0) (y - getD sc i 0))) → P (via k f sa sc x y i)
   via-any P x y i z h =
       elim (decLe (getD sa i 0) x) [
         | yes p ↦ elim (decLe (getD sc i 0) y) [ yes q ↦ rw (via-in x y i p q) (h p q) | no q ↦ rw (via-under x y i p (omega arith)) z ]
@@ -83,17 +84,17 @@ module _ (k f : ℕ) (sa sc : List ℕ) where
       ]
 
   module _ (pos : (i : ℕ) → i < k → 1 ≤ getD sa i 0) where
-    pub W-start : (y : ℕ) → W k f sa sc 0 y ≡ bit (eqb y 0)
-    unfolding W
-    W-start y = paths-start (stepsIn k f sa sc) (onward k f sa sc pos) y
+    pub walks-start : (y : ℕ) → walksTo k f sa sc 0 y ≡ bit (eqb y 0)
+    unfolding walksTo
+    walks-start y = paths-start (stepsIn k f sa sc) (onward k f sa sc pos) y
 
-    pub W-out : (x y : ℕ) → (T (wall f x y) → ⊥) → W k f sa sc x y ≡ 0
-    unfolding W
-    W-out x y h = paths-outside (stepsIn k f sa sc) (onward k f sa sc pos) (spot x y) h
+    pub walks-out : (x y : ℕ) → (T (wall f x y) → ⊥) → walksTo k f sa sc x y ≡ 0
+    unfolding walksTo
+    walks-out x y h = paths-outside (stepsIn k f sa sc) (onward k f sa sc pos) (spot x y) h
 
-    pub W-step : (x y : ℕ) → 0 < x → T (wall f x y) → W k f sa sc x y ≡ sum (via k f sa sc x y) k
-    unfolding W via
-    W-step x y p h = paths-step (stepsIn k f sa sc) (onward k f sa sc pos) (spot x y) p h
+    pub walks-step : (x y : ℕ) → 0 < x → T (wall f x y) → walksTo k f sa sc x y ≡ sum (via k f sa sc x y) k
+    unfolding walksTo via
+    walks-step x y p h = paths-step (stepsIn k f sa sc) (onward k f sa sc pos) (spot x y) p h
 
 -- ---- answers
 
@@ -121,7 +122,7 @@ pub cap-over : (w : ℕ) → capOf w ≡ Over → 2 ^ 64 ≤ w
 unfolding capOf
 cap-over w e = ltb-false w (2 ^ 64) (capBy-over (ltb w (2 ^ 64)) w e)
 
-pub count-over : {r : Answer} {c : ℕ} → r ≡ Count c → r ≡ Over → ⊥
+pub count-over : {r : Tally} {c : ℕ} → r ≡ Count c → r ≡ Over → ⊥
 count-over e o = let z : _≡_ {A = ℕ} 0 1 = cc in omega arith
 
 pub cell-zero : (v o : ℕ) → o ≡ 0 → cellOf v o ≡ Count v
@@ -146,7 +147,7 @@ module _ (g : ℕ → ℕ) (i n acc : ℕ) (at : acc ≡ sum g i) where
   pub total-done : i ≤ n → n ≤ i → acc < 2 ^ 64 → Count acc ≡ capOf (sum g n)
   total-done p q h = let e : i ≡ n = omega arith in let s : acc ≡ sum g n = at ∙ ap (sum g) e in rw (← s) (sym (cap-lt acc h))
 
-  module _ (l : i < n) (r : Answer) (is : r ≡ capOf (g i)) where
+  module _ (l : i < n) (r : Tally) (is : r ≡ capOf (g i)) where
     above : sum g i + g i ≤ sum g n
     above = omega (arith, sum-mono g (i + 1) n (omega arith), sum-more g i)
 
@@ -160,7 +161,7 @@ module _ (g : ℕ → ℕ) (i n acc : ℕ) (at : acc ≡ sum g i) where
       pub total-wraps : 18446744073709551615 - acc < v → Over ≡ capOf (sum g n)
       total-wraps h = sym (cap-ge _ (omega (arith, above, cap-count (g i) v (sym is ∙ o))))
 
-pub put-is : (v o : List ℕ) (i a b : ℕ) (r : Answer) → i < length v → i < length o → cellOf a b ≡ r → Put v o (set v i a) (set o i b) i r
+pub put-is : (v o : List ℕ) (i a b : ℕ) (r : Tally) → i < length v → i < length o → cellOf a b ≡ r → Put v o (set v i a) (set o i b) i r
 put-is v o i a b r h l e = record {
   here = rw (getD-set-same v i a 0 h, getD-set-same o i b 0 l) e;
   elsewhere = λ j m. rw (getD-set-other v i j a 0 m, getD-set-other o i j b 0 m);

@@ -24,6 +24,7 @@ use Rattle.backward.specs.Shears.{Slid}
 use Rattle.backward.proofs.Carried.{Barren}
 use Rattle.backward.proofs.Shears.{below-barren, above-barren, enter-barren}
 use Rattle.job.proofs.Puts.{zeros-at}
+use Rattle.tables.specs.Form.{Slight}
 use Rattle.tables.specs.Heights.{Height, Bounds, Heights, Turned}
 use Rattle.tables.specs.Shapes.{FormOf, Shows, stepsAt, endAt, Beyond, Lowered, View}
 use Rattle.tables.specs.Shapes.Shows.{slid, mirrored}
@@ -32,6 +33,7 @@ use Rattle.tables.specs.Shapes.Lowered.{reached}
 use Rattle.tables.specs.declared.Shape.{Shape}
 use Rattle.tables.proofs.Walls.{set-more}
 use Rattle.tables.proofs.Laws.{mul-bound}
+use Rattle.tables.specs.declared.Wall.{Wall}
 
 -- ---- loops
 
@@ -99,9 +101,9 @@ module _ (t : Bool) (d : ℕ) (sa sc up : List ℕ) (i y : ℕ) (w : Heights t d
 
 -- ---- a shape slid down or mirrored
 
-module _ (s : Shape) (d f ey : ℕ) (up : List ℕ) where
+module _ (s : Shape) (d : ℕ) (f : Wall) (ey : ℕ) (up : List ℕ) where
   abbrev seen : Shape
-  seen = record { state = s .state; k = s .k; f = f; top = s .top; ex = s .ex; ey = ey; sa = s .sa; sc = up }
+  seen = record { state = s .state; k = s .k; wall = f; top = s .top; ex = s .ex; ey = ey; sa = s .sa; sc = up }
 
   -- slid heights are no more than before, 3a + 3 at most; a mirrored one is 6a - c at most, and c is 3a - 3 at least
   there : (t : Bool) → View t d s → Heights t d (s .sa) (s .sc) up (s .k) → (i : ℕ) → i < s .k → getD up i 0 ≤ s .top
@@ -121,7 +123,7 @@ module _ (s : Shape) (d f ey : ℕ) (up : List ℕ) where
   low t v u i l (no h) = omega (arith, u .flat i (omega arith) l)
 
   -- 34 columns of 109 cells at most
-  form : (t : Bool) → View t d s → f ≤ 22 → Height t (s .ey) (d * s .ex) ey → Heights t d (s .sa) (s .sc) up (s .k) → FormOf seen
+  form : (t : Bool) → View t d s → Slight f → Height t (s .ey) (d * s .ex) ey → Heights t d (s .sa) (s .sc) up (s .k) → FormOf seen
   form t v e h u =
       let w = v .gentle in
       let l : ey ≤ 96 = v .near ey h in
@@ -138,7 +140,7 @@ module _ (s : Shape) (d f ey : ℕ) (up : List ℕ) where
           flat = u .flat;
           low = λ i k. low t v u i k (decLt i (s .k));
           top-le = omega arith;
-          f-le = e;
+          slight = e;
           ex-le = omega arith;
           ey-le = l;
           cells = omega (arith, mul-bound (s .ex + 2) (s .top + ey + 1) 34 109 (omega arith) (omega arith));
@@ -146,11 +148,11 @@ module _ (s : Shape) (d f ey : ℕ) (up : List ℕ) where
         wide,
       )
 
-  shows : (t : Bool) → Turned t (s .f) d f → Height t (s .ey) (d * s .ex) ey → Heights t d (s .sa) (s .sc) up (s .k) → Shows (stepsAt s) (endAt s) seen
+  shows : (t : Bool) → Turned t (s .wall) d f → Height t (s .ey) (d * s .ex) ey → Heights t d (s .sa) (s .sc) up (s .k) → Shows (stepsAt s) (endAt s) seen
   shows false w h u = slid d (record { many = refl; right = λ i l. refl; up = u .each; wall = w }) (refl, h)
   shows true w h u = mirrored d (record { many = refl; right = λ i l. refl; up = u .each; wall = w }) (refl, h)
 
-  pub view-lowered : (t : Bool) → View t d s → (f ≤ 22) × Turned t (s .f) d f → Height t (s .ey) (d * s .ex) ey → Heights t d (s .sa) (s .sc) up (s .k) → Lowered s seen
+  pub view-lowered : (t : Bool) → View t d s → Slight f × Turned t (s .wall) d f → Height t (s .ey) (d * s .ex) ey → Heights t d (s .sa) (s .sc) up (s .k) → Lowered s seen
   view-lowered t v w h u = reached (v .gentle .state-is) (form t v (w .0) h u) (shows t (w .1) h u)
 
 -- ---- two grids with the same steps

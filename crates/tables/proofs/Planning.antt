@@ -3,7 +3,7 @@
 --   stride-le                      an offset fits
 --   prepared-for, prepared-last    all that `fill` asks, for a size that has room and for the last one
 --   sizes-for                      bounds of the plan's numbers
---   begun-at                       a table of at least so many cells, all of them 0
+--   blank-at                       a table of at least so many cells, all of them 0
 use mathlib.Core.Path.{_≡_, refl}
 use mathlib.Core.List.{List}
 use Prim.Native.Nat.{ℕ, _≤_}
@@ -13,7 +13,7 @@ use Rattle.job.proofs.Puts.{zeros-at}
 use Rattle.tables.specs.declared.Plan.{Plan}
 use Rattle.tables.specs.Table.{Offsets}
 use Rattle.tables.specs.Plans.{strideFor, cellsFor, SizesFor, Planned, PreparedFor}
-use Rattle.tables.specs.Filling.{Begun}
+use Rattle.tables.specs.Filling.{Blank}
 use Rattle.tables.proofs.Prepare.{ready-more, prepared}
 
 module _ {sa sc : List ℕ} {p : Plan} (pl : Planned sa sc p) where
@@ -31,5 +31,5 @@ module _ {sa sc : List ℕ} {p : Plan} (pl : Planned sa sc p) where
     pub prepared-last : PreparedFor p sa sc off 3712
     prepared-last = prepared-for refl 3712 (sizes-for .cells)
 
-pub begun-at : {p : Plan} {sa sc off : List ℕ} {n : ℕ} → PreparedFor p sa sc off n → (size : ℕ) → n ≤ size → Begun p sa sc off (replicate size 0)
-begun-at r size l = record { ready = ready-more r (length (replicate size 0)) (omega (arith, length-replicate {A = ℕ} size 0)); zero-at = zeros-at size }
+pub blank-at : {p : Plan} {sa sc off : List ℕ} {n : ℕ} → PreparedFor p sa sc off n → (size : ℕ) → n ≤ size → Blank p sa sc off (replicate size 0)
+blank-at r size l = record { ready = ready-more r (length (replicate size 0)) (omega (arith, length-replicate {A = ℕ} size 0)); zero-at = zeros-at size }

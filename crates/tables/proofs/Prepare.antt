@@ -23,6 +23,7 @@ use Rattle.tables.specs.Cells.{strideOf}
 use Rattle.tables.specs.Table.{Steepest, Deepest, Few, Offsets, Prepared}
 use Rattle.tables.proofs.Walls.{set-more}
 use Rattle.tables.proofs.Laws.{mul-bound}
+use Rattle.tables.specs.declared.Wall.{Wall}
 
 pub steepest-none : (sa sc : List ℕ) (ex : ℕ) → Steepest sa sc ex 0 0
 steepest-none sa sc ex = record { le = omega arith; all = λ i l. absurd (not-suc-le-zero l) }
@@ -53,7 +54,7 @@ pub offset-more : (sa sc off : List ℕ) (stride i v : ℕ) → ((j : ℕ) → j
 offset-more sa sc off stride i v all l e = set-more off i v (λ j o. o ≡ getD sa j 0 * stride + getD sc j 0) l all e
 
 -- ready for a table is ready for a larger one
-pub ready-more : {few : Bool} {k f : ℕ} {sa sc off : List ℕ} {hi m ex ey size : ℕ} → Prepared few k f sa sc off hi m ex ey size → (larger : ℕ) → size ≤ larger → Prepared few k f sa sc off hi m ex ey larger
+pub ready-more : {few : Bool} {k : ℕ} {f : Wall} {sa sc off : List ℕ} {hi m ex ey size : ℕ} → Prepared few k f sa sc off hi m ex ey size → (larger : ℕ) → size ≤ larger → Prepared few k f sa sc off hi m ex ey larger
 ready-more r larger l = record { sizes = r .sizes; slopes = r .slopes; offs = r .offs; fewer = r .fewer; room = omega (arith, r .room) }
 
 pub few-not : (sa : List ℕ) (ex : ℕ) → Few false sa ex
@@ -62,7 +63,7 @@ few-not sa ex = record { gone = λ e i p q. let z : _≡_ {A = ℕ} 0 1 = cc in 
 pub few-yes : (sa : List ℕ) (ex : ℕ) → ex < getD sa 4 0 → ex < getD sa 5 0 → ex < getD sa 6 0 → ex < getD sa 7 0 → Few true sa ex
 few-yes sa ex a b c d = record { gone = λ e i p q. eight (λ j. 4 ≤ j → ex < getD sa j 0) (λ h. absurd (omega arith)) (λ h. absurd (omega arith)) (λ h. absurd (omega arith)) (λ h. absurd (omega arith)) (λ h. a) (λ h. b) (λ h. c) (λ h. d) i q p }
 
-module _ {k f : ℕ} {sa sc : List ℕ} {top ex ey : ℕ} (fo : Form k f sa sc top ex ey) where
+module _ {k : ℕ} {f : Wall} {sa sc : List ℕ} {top ex ey : ℕ} (fo : Form k f sa sc top ex ey) where
   pub form-pos : (i : ℕ) → i < 8 → 1 ≤ getD sa i 0
   form-pos i l = elim (decLt i k) [ yes h ↦ fo .ahead i h | no h ↦ omega (arith, fo .away i (omega arith) l) ]
 
@@ -85,7 +86,7 @@ module _ {k f : ℕ} {sa sc : List ℕ} {top ex ey : ℕ} (fo : Form k f sa sc t
     pub prepared : {few : Bool} {off : List ℕ} → Few few sa ex → Offsets sa sc off (strideOf m ey) → (size : ℕ) → (ex + 2) * strideOf m ey ≤ size → Prepared few k f sa sc off hi m ex ey size
     prepared fe of size h = record {
       sizes = record {
-        f-le = omega (arith, fo .f-le);
+        wall-le = record { slope-le = omega (arith, fo .slight .slope-le); start-le = omega (arith, fo .slight .start-le) };
         hi-le = omega (arith, st .le);
         m-le = omega (arith, de .le, fo .top-le);
         ex-le = fo .ex-le;

@@ -26,9 +26,10 @@ use Rattle.backward.proofs.Backward.{valid-stop, valid-no-letter, none-valid}
 use Rattle.backward.proofs.Grids.{grid-lawful}
 use Rattle.tables.specs.Form.{wall, stepsIn, spot}
 use Rattle.letters.specs.Letters.{placeOf}
-use Rattle.tables.specs.Edges.{endOf, isEdge}
+use Rattle.tables.specs.Edges.{walkEnd, isWalk}
 use Rattle.tables.proofs.Walls.{wall-start}
 use Rattle.tables.proofs.Laws.{onward}
+use Rattle.tables.specs.declared.Wall.{Wall}
 
 -- ---- words
 
@@ -58,8 +59,8 @@ word-none p e (suc i) h = absurd (not-suc-le-zero h)
 
 -- ---- one step back
 
-module _ (k f : ℕ) (sa sc : List ℕ) (x y l : ℕ) where
-  pub back-is : getD sa l 0 ≤ x → getD sc l 0 ≤ y → grid (stepsIn k f sa sc) .back (spot x y) l ≡ endOf k f sa sc (x - getD sa l 0) (y - getD sc l 0)
+module _ (k : ℕ) (f : Wall) (sa sc : List ℕ) (x y l : ℕ) where
+  pub back-is : getD sa l 0 ≤ x → getD sc l 0 ≤ y → grid (stepsIn k f sa sc) .back (spot x y) l ≡ walkEnd k f sa sc (x - getD sa l 0) (y - getD sc l 0)
   back-is ha hc = rw (le-leb (getD sa l 0) x ha, le-leb (getD sc l 0) y hc)
 
   pub back-left : x < getD sa l 0 → grid (stepsIn k f sa sc) .back (spot x y) l ≡ none
@@ -68,32 +69,32 @@ module _ (k f : ℕ) (sa sc : List ℕ) (x y l : ℕ) where
   pub back-under : getD sa l 0 ≤ x → y < getD sc l 0 → grid (stepsIn k f sa sc) .back (spot x y) l ≡ none
   back-under ha h = rw (le-leb (getD sa l 0) x ha, lt-leb (getD sc l 0) y h)
 
-pub end-in : (k f : ℕ) (sa sc : List ℕ) (x y : ℕ) → T (wall f x y) → endOf k f sa sc x y ≡ some (spot x y)
+pub end-in : (k : ℕ) (f : Wall) (sa sc : List ℕ) (x y : ℕ) → T (wall f x y) → walkEnd k f sa sc x y ≡ some (spot x y)
 end-in k f sa sc x y h = only-true (wall f x y) (spot x y) h
 
-pub end-out : (k f : ℕ) (sa sc : List ℕ) (x y : ℕ) → (T (wall f x y) → ⊥) → endOf k f sa sc x y ≡ none
+pub end-out : (k : ℕ) (f : Wall) (sa sc : List ℕ) (x y : ℕ) → (T (wall f x y) → ⊥) → walkEnd k f sa sc x y ≡ none
 end-out k f sa sc x y h = only-none (wall f x y) (spot x y) h
 
 -- ---- validity
 
-unfoldable pub ok : Bool → ℕ → ℕ → List ℕ → List ℕ → List ℕ → ℕ → ℕ → ℕ → Bool
-ok lettered k f sa sc e i x y = valid (grid (stepsIn k f sa sc)) (wordTo (placeOf lettered) e i) (endOf k f sa sc x y)
+unfoldable pub ok : Bool → ℕ → Wall → List ℕ → List ℕ → List ℕ → ℕ → ℕ → ℕ → Bool
+ok lettered k f sa sc e i x y = valid (grid (stepsIn k f sa sc)) (wordTo (placeOf lettered) e i) (walkEnd k f sa sc x y)
 
 -- a start that is allowed is the only word of no letters
-none-left : (k f : ℕ) (sa sc : List ℕ) (b : Bool) (x y : ℕ) → valid (grid (stepsIn k f sa sc)) [] (onlyIf b (spot x y)) ≡ b && (eqb x 0 && eqb y 0)
+none-left : (k : ℕ) (f : Wall) (sa sc : List ℕ) (b : Bool) (x y : ℕ) → valid (grid (stepsIn k f sa sc)) [] (onlyIf b (spot x y)) ≡ b && (eqb x 0 && eqb y 0)
 unfolding valid
 none-left k f sa sc true x y = refl
 none-left k f sa sc false x y = refl
 
-module _ (lettered : Bool) (k f : ℕ) (sa sc e : List ℕ) where
-  pub ok-all : (x y : ℕ) → ok lettered k f sa sc e (length e) x y ≡ isEdge lettered k f sa sc x y e
-  unfolding ok isEdge
-  ok-all x y = ap (λ (w : List ℕ). valid (grid (stepsIn k f sa sc)) w (endOf k f sa sc x y)) (word-all (placeOf lettered) e)
+module _ (lettered : Bool) (k : ℕ) (f : Wall) (sa sc e : List ℕ) where
+  pub ok-all : (x y : ℕ) → ok lettered k f sa sc e (length e) x y ≡ isWalk lettered k f sa sc x y e
+  unfolding ok isWalk
+  ok-all x y = ap (λ (w : List ℕ). valid (grid (stepsIn k f sa sc)) w (walkEnd k f sa sc x y)) (word-all (placeOf lettered) e)
 
   module _ (i x y : ℕ) (h : i ≤ 0) where
     ok-none : ok lettered k f sa sc e i x y ≡ wall f x y && (eqb x 0 && eqb y 0)
     unfolding ok
-    ok-none = ap (λ (w : List ℕ). valid (grid (stepsIn k f sa sc)) w (endOf k f sa sc x y)) (word-none (placeOf lettered) e i h) ∙ none-left k f sa sc (wall f x y) x y
+    ok-none = ap (λ (w : List ℕ). valid (grid (stepsIn k f sa sc)) w (walkEnd k f sa sc x y)) (word-none (placeOf lettered) e i h) ∙ none-left k f sa sc (wall f x y) x y
 
     ok-far : (x ≤ 0 → ⊥) → ok lettered k f sa sc e i x y ≡ false
     ok-far n = ok-none ∙ rw (ne-eqb x 0 (λ q. n (omega arith))) (and-false (wall f x y))
@@ -112,9 +113,9 @@ module _ (lettered : Bool) (k f : ℕ) (sa sc e : List ℕ) where
         ]
 
   module _ (pos : (i : ℕ) → i < k → 1 ≤ getD sa i 0) (i x y l : ℕ) (h : 0 < i) (q : l ≡ placeOf lettered (getD e (i - 1) 0)) where
-    ok-cons : ok lettered k f sa sc e i x y ≡ valid (grid (stepsIn k f sa sc)) (l ∷ wordTo (placeOf lettered) e (i - 1)) (endOf k f sa sc x y)
+    ok-cons : ok lettered k f sa sc e i x y ≡ valid (grid (stepsIn k f sa sc)) (l ∷ wordTo (placeOf lettered) e (i - 1)) (walkEnd k f sa sc x y)
     unfolding ok
-    ok-cons = ap (λ (w : List ℕ). valid (grid (stepsIn k f sa sc)) w (endOf k f sa sc x y)) (word-cons (placeOf lettered) e i l h q)
+    ok-cons = ap (λ (w : List ℕ). valid (grid (stepsIn k f sa sc)) w (walkEnd k f sa sc x y)) (word-cons (placeOf lettered) e i l h q)
 
     pub ok-out : (T (wall f x y) → ⊥) → ok lettered k f sa sc e i x y ≡ false
     ok-out o =

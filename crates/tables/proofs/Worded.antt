@@ -30,17 +30,16 @@ use Rattle.rules.specs.Valid.{place, at}
 use Rattle.rules.specs.Words.{wordOf}
 use Rattle.rules.specs.Counts.{countOf}
 use Rattle.rules.specs.Numbers as numbers
-use Rattle.rules.proofs.Shear.{gridOf}
 use Rattle.rules.proofs.Letters.{map-reverse}
 use Rattle.letters.specs.Letters.{placeOf, glyphOf}
-use Rattle.tables.specs.Form.{W}
+use Rattle.tables.specs.Form.{walksTo}
 use Rattle.tables.specs.Edges as edges
-use Rattle.tables.specs.Shapes.{isLettered, stepsAt, endAt, Shows}
+use Rattle.tables.specs.Shapes.{stepsAt, endAt, Shows}
 use Rattle.tables.specs.Shapes.Shows.{slid, mirrored}
 use Rattle.tables.specs.declared.Shape.{Shape}
 use Rattle.tables.proofs.Laws.{onward}
-use Rattle.tables.proofs.Gridded.{Agree, entered, Gridded}
-use Rattle.tables.proofs.Gridded.Agree.{same, both}
+use Rattle.tables.specs.Gridded.{Agree, entered, Gridded}
+use Rattle.tables.specs.Gridded.Agree.{same, both}
 
 module _ (R : Reader) (p q : ℕ → ℕ) (agree : (b : ℕ) → Agree (R .letters) (p b) (q b)) where
   valid-map : (u : List ℕ) (m : Option (R .State)) → valid R (map p u) m ≡ valid R (map q u) m
@@ -99,10 +98,7 @@ walked G q s (mirrored d l a) = record {
 
 -- ---- a job's edges by the grid of its shape
 
-module _ {J : rules.Job} {q : Spot} (g : Gridded J q) (s : Shape) (v : Shows (gridOf J) q s) where
-  abbrev G : Steps
-  G = gridOf J
-
+module _ {J : rules.Job} {lettered : Bool} {G : Steps} {q : Spot} (g : Gridded J lettered G q) (s : Shape) (v : Shows G q s) where
   abbrev H : Steps
   H = stepsAt s
 
@@ -115,7 +111,7 @@ module _ {J : rules.Job} {q : Spot} (g : Gridded J q) (s : Shape) (v : Shows (gr
 
   -- a byte's place, the code's and the job's
   abbrev byte : ℕ → ℕ
-  byte b = placeOf (isLettered J) b
+  byte b = placeOf lettered b
 
   abbrev step : ℕ → ℕ
   step b = place b (stepsOf J)
@@ -127,7 +123,7 @@ module _ {J : rules.Job} {q : Spot} (g : Gridded J q) (s : Shape) (v : Shows (gr
   job-lawful = grid-lawful G (g .onward)
 
   shape-lawful : Lawful (grid H)
-  shape-lawful = grid-lawful H (onward (s .k) (s .f) (s .sa) (s .sc) (λ i l. rw (w .right i l) (g .onward .ahead i (omega (arith, w .many)))))
+  shape-lawful = grid-lawful H (onward (s .k) (s .wall) (s .sa) (s .sc) (λ i l. rw (w .right i l) (g .onward .ahead i (omega (arith, w .many)))))
 
   same-count : count (grid H) end-there ≡ count (grid G) end
   same-count = count-carried (grid H) (grid G) (w .At) (w .carries) end-there end (w .led)
@@ -138,16 +134,16 @@ module _ {J : rules.Job} {q : Spot} (g : Gridded J q) (s : Shape) (v : Shows (gr
   word-valid : (e : List ℕ) → valid (grid G) (reverse (map byte e)) end ≡ valid (grid G) (wordOf J e) end
   word-valid e = rw (map-reverse byte e, map-reverse step e) (valid-map (grid G) byte step (g .places) (reverse e) end)
 
-  pub shape-count : W (s .k) (s .f) (s .sa) (s .sc) (s .ex) (s .ey) ≡ countOf J
-  unfolding W paths
+  pub shape-count : walksTo (s .k) (s .wall) (s .sa) (s .sc) (s .ex) (s .ey) ≡ countOf J
+  unfolding walksTo paths
   shape-count = same-count ∙ sym (g .counts)
 
-  pub shape-edge : (e : List ℕ) → edges.isEdge (isLettered J) (s .k) (s .f) (s .sa) (s .sc) (s .ex) (s .ey) e ≡ valids.isEdge J e
-  unfolding edges.isEdge
+  pub shape-edge : (e : List ℕ) → edges.isWalk lettered (s .k) (s .wall) (s .sa) (s .sc) (s .ex) (s .ey) e ≡ valids.isEdge J e
+  unfolding edges.isWalk
   shape-edge e = same-valid (reverse (map byte e)) ∙ word-valid e ∙ sym (g .walks e)
 
-  pub shape-number : (e : List ℕ) → T (valids.isEdge J e) → edges.numberOf (isLettered J) (s .k) (s .f) (s .sa) (s .sc) (s .ex) (s .ey) e ≡ numbers.numberOf J e
-  unfolding edges.numberOf
+  pub shape-number : (e : List ℕ) → T (valids.isEdge J e) → edges.walkNumber lettered (s .k) (s .wall) (s .sa) (s .sc) (s .ex) (s .ey) e ≡ numbers.numberOf J e
+  unfolding edges.walkNumber
   shape-number e t =
       let c : T (valid (grid G) (reverse (map byte e)) end) = subst T (g .walks e ∙ sym (word-valid e)) t in
       let d : T (valid (grid G) (map byte (reverse e)) end) = rw (map-reverse byte e) at c in
@@ -155,8 +151,8 @@ module _ {J : rules.Job} {q : Spot} (g : Gridded J q) (s : Shape) (v : Shows (gr
       rank-carried (grid H) (grid G) (w .At) (w .carries) shape-lawful job-lawful (reverse (map byte e)) end-there end (w .led) h
       ∙ rw (map-reverse byte e, g .numbers e t, map-reverse step e) (rank-map (grid G) byte step (g .places) job-lawful (reverse e) end d)
 
-  pub shape-spells : (n : ℕ) → n < countOf J → edges.edgeOf (isLettered J) (s .k) (s .f) (s .sa) (s .sc) (s .ex) (s .ey) n ≡ numbers.edgeOf J n
-  unfolding edges.edgeOf paths
+  pub shape-spells : (n : ℕ) → n < countOf J → edges.walkOf lettered (s .k) (s .wall) (s .sa) (s .sc) (s .ex) (s .ey) n ≡ numbers.edgeOf J n
+  unfolding edges.walkOf paths
   shape-spells n l =
       let h : n < paths G q = rw (g .counts) at l in
       let c : n < count (grid H) end-there = rw same-count h in
@@ -164,7 +160,7 @@ module _ {J : rules.Job} {q : Spot} (g : Gridded J q) (s : Shape) (v : Shows (gr
       rw (
         unrank-carried (grid H) (grid G) (w .At) (w .carries) shape-lawful job-lawful end-there end (w .led) n c,
         g .spells n h,
-        ← map-reverse (glyphOf (isLettered J)) (unrank (grid G) end n),
+        ← map-reverse (glyphOf lettered) (unrank (grid G) end n),
         ← map-reverse (λ i. at (stepsOf J) i .letter) (unrank (grid G) end n),
       )
-      (ap reverse (map-letters (grid G) job-lawful (glyphOf (isLettered J)) (λ i. at (stepsOf J) i .letter) (g .glyphs) (unrank (grid G) end n) end (b .is)))
+      (ap reverse (map-letters (grid G) job-lawful (glyphOf lettered) (λ i. at (stepsOf J) i .letter) (g .glyphs) (unrank (grid G) end n) end (b .is)))

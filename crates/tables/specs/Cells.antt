@@ -18,23 +18,23 @@ use lib.Dec.{ltb, eqb}
 use lib.ListN.{length, getD}
 use Rattle.howmany.specs.Choose.{pick}
 use Rattle.howmany.specs.Sum.{sum}
-use Rattle.tables.specs.declared.Answer.{Answer}
-use Rattle.tables.specs.declared.Answer.the-variants.{Count, Over}
+use Rattle.tables.specs.declared.Tally.{Tally}
+use Rattle.tables.specs.declared.Tally.the-variants.{Count, Over}
 
-abbrev pub capBy : Bool → ℕ → Answer
+abbrev pub capBy : Bool → ℕ → Tally
 capBy true w = Count w
 capBy false w = Over
 
-unfoldable pub capOf : ℕ → Answer
+unfoldable pub capOf : ℕ → Tally
 capOf w = capBy (ltb w (2 ^ 64)) w
 
-unfoldable pub cellOf : ℕ → ℕ → Answer
+unfoldable pub cellOf : ℕ → ℕ → Tally
 cellOf v o = pick (eqb o 0) (Count v) Over
 
-abbrev pub cellAt : List ℕ → List ℕ → ℕ → Answer
+abbrev pub cellAt : List ℕ → List ℕ → ℕ → Tally
 cellAt val ov j = cellOf (getD val j 0) (getD ov j 0)
 
-pub record Put (v o v′ o′ : List ℕ) (i : ℕ) (r : Answer) : Type 0 where
+pub record Put (v o v′ o′ : List ℕ) (i : ℕ) (r : Tally) : Type 0 where
   pub here : cellAt v′ o′ i ≡ r
   pub elsewhere : (j : ℕ) → (j ≡ i → ⊥) → cellAt v′ o′ j ≡ cellAt v o j
 

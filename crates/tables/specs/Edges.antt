@@ -1,11 +1,13 @@
 -- Edges over the grid, from their end backwards: whether one is valid, its number, and the edge of a number. Cited from the
 -- backward-order theorem, whose reader is `grid` and whose words are `wordOf`.
 --
---   endOf        the end (x, y), if the wall allows it
---   isEdge       whether the bytes e are an edge to (x, y)
---   numberOf     its number (001, algorithm 7)
---   edgeOf       the edge of the number r, as bytes (001, algorithm 8)
---   Reads        what the steps bring to cell p, column x, height y, can be read, and all of it fits
+--   walkEnd        the end (x, y), if the wall allows it
+--   isWalk       whether the bytes e are an edge to (x, y)
+--   walkNumber     its number (001, algorithm 7)
+--   walkOf       the edge of the number r, as bytes (001, algorithm 8)
+--   broughtAt    what step i brings to cell p of column x
+--   Summed       what the first n steps bring to it can be read, and all of it fits
+--   Reads        the same of all steps, where p is the cell of height y
 --   Sought       step l is the last one of the number r, and rest the number of what stands before it
 use mathlib.Core.Path.{_≡_}
 use mathlib.Core.Bool.{Bool}
@@ -20,24 +22,34 @@ use Rattle.backward.specs.Grid.{Spot, grid, way}
 use Rattle.tables.specs.Form.{stepsIn, spot, via}
 use Rattle.letters.specs.Letters.{glyphOf, wordOf}
 use Rattle.tables.specs.Cells.{sourceOf}
+use Rattle.tables.specs.declared.Wall.{Wall}
 
-abbrev pub endOf : ℕ → ℕ → List ℕ → List ℕ → ℕ → ℕ → Option Spot
-endOf k f sa sc x y = enter (grid (stepsIn k f sa sc)) (way (stepsIn k f sa sc)) (spot x y)
+abbrev pub walkEnd : ℕ → Wall → List ℕ → List ℕ → ℕ → ℕ → Option Spot
+walkEnd k f sa sc x y = enter (grid (stepsIn k f sa sc)) (way (stepsIn k f sa sc)) (spot x y)
 
-unfoldable pub isEdge : Bool → ℕ → ℕ → List ℕ → List ℕ → ℕ → ℕ → List ℕ → Bool
-isEdge lettered k f sa sc x y e = valid (grid (stepsIn k f sa sc)) (wordOf lettered e) (endOf k f sa sc x y)
+unfoldable pub isWalk : Bool → ℕ → Wall → List ℕ → List ℕ → ℕ → ℕ → List ℕ → Bool
+isWalk lettered k f sa sc x y e = valid (grid (stepsIn k f sa sc)) (wordOf lettered e) (walkEnd k f sa sc x y)
 
-unfoldable pub numberOf : Bool → ℕ → ℕ → List ℕ → List ℕ → ℕ → ℕ → List ℕ → ℕ
-numberOf lettered k f sa sc x y e = rank (grid (stepsIn k f sa sc)) (wordOf lettered e) (endOf k f sa sc x y)
+unfoldable pub walkNumber : Bool → ℕ → Wall → List ℕ → List ℕ → ℕ → ℕ → List ℕ → ℕ
+walkNumber lettered k f sa sc x y e = rank (grid (stepsIn k f sa sc)) (wordOf lettered e) (walkEnd k f sa sc x y)
 
-unfoldable pub edgeOf : Bool → ℕ → ℕ → List ℕ → List ℕ → ℕ → ℕ → ℕ → List ℕ
-edgeOf lettered k f sa sc x y r = map (glyphOf lettered) (reverse (unrank (grid (stepsIn k f sa sc)) (endOf k f sa sc x y) r))
+unfoldable pub walkOf : Bool → ℕ → Wall → List ℕ → List ℕ → ℕ → ℕ → ℕ → List ℕ
+walkOf lettered k f sa sc x y r = map (glyphOf lettered) (reverse (unrank (grid (stepsIn k f sa sc)) (walkEnd k f sa sc x y) r))
 
-pub record Reads (k f : ℕ) (sa sc off val : List ℕ) (x y p : ℕ) : Type 0 where
+abbrev pub broughtAt : List ℕ → List ℕ → List ℕ → ℕ → ℕ → ℕ → ℕ
+broughtAt sa off val x p i = getD val (sourceOf sa off x p i) 0
+
+pub record Summed (n : ℕ) (sa off val : List ℕ) (x p : ℕ) : Type 0 where
+  pub most : n ≤ 8
+  pub back : (i : ℕ) → i < n → getD sa i 0 ≤ x → getD off i 0 ≤ p
+  pub in-val : (i : ℕ) → i < n → sourceOf sa off x p i < length val
+  pub fits : sum (broughtAt sa off val x p) n < 2 ^ 64
+
+pub record Reads (k : ℕ) (f : Wall) (sa sc off val : List ℕ) (x y p : ℕ) : Type 0 where
   pub most : k ≤ 8
   pub back : (i : ℕ) → i < k → getD sa i 0 ≤ x → getD off i 0 ≤ p
   pub in-val : (i : ℕ) → i < k → sourceOf sa off x p i < length val
-  pub says : (i : ℕ) → i < k → getD val (sourceOf sa off x p i) 0 ≡ via k f sa sc x y i
+  pub says : (i : ℕ) → i < k → broughtAt sa off val x p i ≡ via k f sa sc x y i
   pub fits : sum (via k f sa sc x y) k < 2 ^ 64
 
 pub record Sought (g : ℕ → ℕ) (k r l rest : ℕ) : Type 0 where

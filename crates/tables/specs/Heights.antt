@@ -12,6 +12,7 @@ use mathlib.Core.List.{List}
 use Prim.Native.Nat.{ℕ, _+_, _*_, _-_, _≤_, _<_}
 use lib.ListN.{length, getD}
 use Rattle.tables.specs.Form.{wall}
+use Rattle.tables.specs.declared.Wall.{Wall}
 
 pub record Lifted (k : ℕ) (sa sc : List ℕ) : Type 0 where
   pub few : k ≤ 8
@@ -37,6 +38,6 @@ pub record Heights (t : Bool) (d : ℕ) (sa sc up : List ℕ) (i : ℕ) : Type 0
   pub each : (j : ℕ) → j < i → Height t (getD sc j 0) (d * getD sa j 0) (getD up j 0)
   pub flat : (j : ℕ) → i ≤ j → j < 8 → getD up j 0 ≡ 0
 
-abbrev pub Turned : Bool → ℕ → ℕ → ℕ → Type 0
+abbrev pub Turned : Bool → Wall → ℕ → Wall → Type 0
 Turned true f d r = (x y : ℕ) → y ≤ d * x → wall r x y ≡ wall f x (d * x - y)
 Turned false f d r = (x y : ℕ) → wall r x y ≡ wall f x (y + d * x)

@@ -2,6 +2,7 @@ pub mod Form
 pub mod Cells
 pub mod Table
 pub mod Edges
+pub mod Gridded
 pub mod Heights
 pub mod Shapes
 pub mod Calls

@@ -10,9 +10,10 @@ use Rattle.rules.specs.Refusals.Refusal.{over}
 use Rattle.rules.specs.Refusals.Answer.{accepted}
 use Rattle.rules.specs.Answers.{most}
 use Rattle.lines.specs.Ranks.{frontBy}
-use Rattle.tables.specs.Form.{W}
-use Rattle.tables.specs.Edges.{isEdge, numberOf}
+use Rattle.tables.specs.Form.{walksTo}
+use Rattle.tables.specs.Edges.{isWalk, walkNumber}
+use Rattle.tables.specs.declared.Wall.{Wall}
 
-unfoldable pub tableRanks : Bool → ℕ → ℕ → List ℕ → List ℕ → ℕ → ℕ → List (List ℕ) → Answer (List ℕ)
+unfoldable pub tableRanks : Bool → ℕ → Wall → List ℕ → List ℕ → ℕ → ℕ → List (List ℕ) → Answer (List ℕ)
 tableRanks lettered k f sa sc ex ey es =
-    check (leb (W k f sa sc ex ey) most) over (accepted (frontBy (isEdge lettered k f sa sc ex ey) (numberOf lettered k f sa sc ex ey) es))
+    check (leb (walksTo k f sa sc ex ey) most) over (accepted (frontBy (isWalk lettered k f sa sc ex ey) (walkNumber lettered k f sa sc ex ey) es))

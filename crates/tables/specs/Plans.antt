@@ -26,87 +26,87 @@ use Rattle.lines.specs.declared.Rank.{Rank}
 use Rattle.lines.specs.declared.Ranked.{Ranked}
 use Rattle.lines.specs.Lines.{lined, LinedAs, Room}
 use Rattle.lines.specs.Ranks.{RankIs, ranked, RankedAs}
-use Rattle.tables.specs.declared.Answer as counts
+use Rattle.tables.specs.declared.Tally as counts
 use Rattle.tables.specs.declared.Plan.{Plan}
 use Rattle.tables.specs.declared.Shape.{Shape}
-use Rattle.tables.specs.Form.{Form, W}
+use Rattle.tables.specs.Form.{Form, walksTo}
 use Rattle.tables.specs.Cells.{capOf, strideOf}
 use Rattle.tables.specs.Table.{Steepest, Deepest, Few, Sizes, Prepared, Spans, Table, Flagged, Small}
-use Rattle.tables.specs.Edges.{isEdge, numberOf, edgeOf}
+use Rattle.tables.specs.Edges.{isWalk, walkNumber, walkOf}
 use Rattle.tables.specs.Numbering.{tableRanks}
 use Rattle.tables.specs.Spelling.{edgesBy, edgesFor}
 
 abbrev pub strideFor : Plan → ℕ
-strideFor p = strideOf (p .m) (p .ey)
+strideFor p = strideOf (p .deep) (p .ey)
 
 abbrev pub cellsFor : Plan → ℕ
 cellsFor p = (p .ex + 2) * strideFor p
 
 abbrev pub SizesFor : Plan → Type 0
-SizesFor p = Sizes (p .f) (p .hi) (p .m) (p .ex) (p .ey)
+SizesFor p = Sizes (p .wall) (p .hi) (p .deep) (p .ex) (p .ey)
 
 abbrev pub Narrow : Plan → Type 0
 Narrow p = p .ex ≤ 32
 
 abbrev pub FormFor : Plan → List ℕ → List ℕ → Type 0
-FormFor p sa sc = Form (p .k) (p .f) sa sc (p .top) (p .ex) (p .ey)
+FormFor p sa sc = Form (p .k) (p .wall) sa sc (p .top) (p .ex) (p .ey)
 
 pub record Planned (sa sc : List ℕ) (p : Plan) : Type 0 where
   pub form : FormFor p sa sc
   pub steep : Steepest sa sc (p .ex) (p .hi) 8
-  pub deep : Deepest sa sc (p .top) (p .ex) (p .m) 8
+  pub deep : Deepest sa sc (p .top) (p .ex) (p .deep) 8
   pub fewer : Few (p .few) sa (p .ex)
 
 pub record PlanOf (s : Shape) (p : Plan) : Type 0 where
   pub planned : Planned (s .sa) (s .sc) p
   pub k-is : p .k ≡ s .k
-  pub f-is : p .f ≡ s .f
+  pub wall-is : p .wall ≡ s .wall
   pub ex-is : p .ex ≡ s .ex
   pub ey-is : p .ey ≡ s .ey
 
 abbrev pub PreparedFor : Plan → List ℕ → List ℕ → List ℕ → ℕ → Type 0
-PreparedFor p sa sc off size = Prepared (p .few) (p .k) (p .f) sa sc off (p .hi) (p .m) (p .ex) (p .ey) size
+PreparedFor p sa sc off size = Prepared (p .few) (p .k) (p .wall) sa sc off (p .hi) (p .deep) (p .ex) (p .ey) size
 
 abbrev pub TableFor : Plan → List ℕ → List ℕ → List ℕ → ℕ → Type 0
-TableFor p sa sc val x = Table (p .k) (p .f) sa sc (p .hi) (p .m) (p .ex) (p .ey) val x
+TableFor p sa sc val x = Table (p .k) (p .wall) sa sc (p .hi) (p .deep) (p .ex) (p .ey) val x
 
 abbrev pub SmallFor : Plan → List ℕ → List ℕ → ℕ → Type 0
-SmallFor p sa sc x = Small (p .k) (p .f) sa sc (p .hi) (p .ex) (p .ey) x
+SmallFor p sa sc x = Small (p .k) (p .wall) sa sc (p .hi) (p .ex) (p .ey) x
 
 abbrev pub FlaggedFor : Plan → List ℕ → List ℕ → List ℕ → List ℕ → ℕ → Type 0
-FlaggedFor p sa sc val ov x = Flagged (p .k) (p .f) sa sc (p .hi) (p .m) (p .ex) (p .ey) val ov x
+FlaggedFor p sa sc val ov x = Flagged (p .k) (p .wall) sa sc (p .hi) (p .deep) (p .ex) (p .ey) val ov x
 
 abbrev pub SpansFor : Plan → List ℕ → List ℕ → Type 0
-SpansFor p starts stops = Spans (p .f) (p .hi) (p .ex) (p .ey) starts stops (p .ex + 1)
+SpansFor p starts stops = Spans (p .wall) (p .hi) (p .ex) (p .ey) starts stops (p .ex + 1)
 
 abbrev pub walksFor : Plan → List ℕ → List ℕ → ℕ
-walksFor p sa sc = W (p .k) (p .f) sa sc (p .ex) (p .ey)
+walksFor p sa sc = walksTo (p .k) (p .wall) sa sc (p .ex) (p .ey)
 
-abbrev pub countFor : Plan → List ℕ → List ℕ → counts.Answer
+abbrev pub countFor : Plan → List ℕ → List ℕ → counts.Tally
 countFor p sa sc = capOf (walksFor p sa sc)
 
 abbrev pub validFor : Bool → Plan → List ℕ → List ℕ → List ℕ → Bool
-validFor lettered p sa sc e = isEdge lettered (p .k) (p .f) sa sc (p .ex) (p .ey) e
+validFor lettered p sa sc e = isWalk lettered (p .k) (p .wall) sa sc (p .ex) (p .ey) e
 
 abbrev pub rankFor : Bool → Plan → List ℕ → List ℕ → List ℕ → ℕ
-rankFor lettered p sa sc e = numberOf lettered (p .k) (p .f) sa sc (p .ex) (p .ey) e
+rankFor lettered p sa sc e = walkNumber lettered (p .k) (p .wall) sa sc (p .ex) (p .ey) e
 
 abbrev pub RankFor : Bool → Plan → List ℕ → List ℕ → List ℕ → Rank → Type 0
 RankFor lettered p sa sc e r = RankIs (validFor lettered p sa sc e) (rankFor lettered p sa sc e) r
 
 abbrev pub NumbersFor : Bool → Plan → List ℕ → List ℕ → List (List ℕ) → List ℕ → List ℕ → Ranked → Type 0
-NumbersFor lettered p sa sc es before after r = RankedAs (ranked (tableRanks lettered (p .k) (p .f) sa sc (p .ex) (p .ey) es) before) r after
+NumbersFor lettered p sa sc es before after r = RankedAs (ranked (tableRanks lettered (p .k) (p .wall) sa sc (p .ex) (p .ey) es) before) r after
 
 abbrev pub edgeFor : Bool → Plan → List ℕ → List ℕ → ℕ → List ℕ
-edgeFor lettered p sa sc r = edgeOf lettered (p .k) (p .f) sa sc (p .ex) (p .ey) r
+edgeFor lettered p sa sc r = walkOf lettered (p .k) (p .wall) sa sc (p .ex) (p .ey) r
 
 abbrev pub ListsFor : Bool → Plan → List ℕ → List ℕ → List ℕ → List ℕ → List ℕ → List ℕ → List ℕ → ℕ → Type 0
 ListsFor lettered p sa sc ns steps ends after-steps after-ends at =
-    LinedAs (lined (accepted (edgesBy lettered (p .k) (p .f) sa sc (p .ex) (p .ey) ns)) steps ends) (Length at) after-steps after-ends
+    LinedAs (lined (accepted (edgesBy lettered (p .k) (p .wall) sa sc (p .ex) (p .ey) ns)) steps ends) (Length at) after-steps after-ends
 
 abbrev pub BuildsFor : Bool → Plan → List ℕ → List ℕ → List ℕ → List ℕ → List ℕ → List ℕ → List ℕ → Built → Type 0
 BuildsFor lettered p sa sc ns steps ends after-steps after-ends r =
-    LinedAs (lined (edgesFor lettered (p .k) (p .f) sa sc (p .ex) (p .ey) ns) steps ends) r after-steps after-ends
+    LinedAs (lined (edgesFor lettered (p .k) (p .wall) sa sc (p .ex) (p .ey) ns) steps ends) r after-steps after-ends
 
 abbrev pub RoomFor : List ℕ → List ℕ → List ℕ → Type 0
 RoomFor ns steps ends = Room (length ns) (length steps) (length ends)

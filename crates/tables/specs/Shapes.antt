@@ -1,16 +1,13 @@
 -- A job in the grid's form.
 --
---   Grids J             the job is of family 1, 3, 6 or 7
---   Sound j             the held job j stands for such a job
---   isLettered J          its edges are written N E D
---   Sits J q            the spot q stands for the job's end
 --   stepsAt s, endAt s  the steps and the end of the shape s
 --   FormOf s            the shape s is one that the table can be filled for, with no more than the 32 columns of families 6 and 7
 --   Shows G q s         the shape s shows the grid G with the end q: slid down, or mirrored
---   Fits J s            the shape s shows the grid of the job and its end
---   Shaped J s          s says all of the job: its steps and end, and its letters are digits, or that nothing leads to its end
+--   Fits J lettered s   the shape s shows a grid of the job and its end
+--   Shaped J s          s says all of the job, whose edges are written in digits: its steps and end, or that nothing leads to its end
 --   ShapedFor j s       the same, of the job that j stands for
 --   Ranged j            the ranges of families 6 and 7
+--   Fenced f            the wall f is a fence as those families have
 --   Laying, Laid j f s  their own steps so far; their own shape, with each height as in the job's own grid
 --   Gentle s            the shape s has steps as those families have, and can be lowered
 --   Beyond G q          the end q lies below the least steep step of G, or above the steepest
@@ -18,7 +15,7 @@
 --   View t d s          what s must be to be slid down by d, or mirrored at d where t
 --   Chosen j f r        the shape r of families 6 and 7
 use mathlib.Core.Path.{_≡_}
-use mathlib.Core.Bool.{Bool, true, false}
+use mathlib.Core.Bool.{Bool, false}
 use mathlib.Core.List.{List}
 use Prim.Native.Nat.{ℕ, _+_, _*_, _-_, _≤_, _<_}
 use lib.Dec.{T, ltb}
@@ -27,48 +24,18 @@ use Rattle.howmany.specs.Choose.{bit}
 use Rattle.backward.specs.Grid.{Spot, Steps}
 use Rattle.backward.specs.Shears.{Slid, Lower, Mirrored, Across}
 use Rattle.rules.specs.Jobs as rules
-use Rattle.rules.specs.Jobs.{endOf}
-use Rattle.rules.specs.Jobs.Job.{north-east, dyck, delannoy, schroder, motzkin, directed}
 use Rattle.rules.specs.Valid.{Valid}
 use Rattle.rules.specs.Counts.{countOf}
-use Rattle.rules.proofs.Shear.{gridOf, Plain, Slope}
 use Rattle.job.specs.declared.Job.{Job}
 use Rattle.job.specs.Stands.{Stands}
 use Rattle.tables.specs.Form.{Form, stepsIn, spot}
+use Rattle.tables.specs.Gridded.{Gridded}
 use Rattle.tables.specs.Heights.{Lifted, Beside, Height, Bounds}
 use Rattle.tables.specs.declared.Shape.{Shape}
-
-abbrev pub Grids : rules.Job → Type 0
-Grids (north-east n m) = Unit {0}
-Grids (dyck n) = ⊥
-Grids (delannoy n m) = Unit {0}
-Grids (schroder n) = ⊥
-Grids (motzkin n) = ⊥
-Grids (directed fenced n m s pairs) = Unit {0}
-
-pub record Sound (j : Job) : Type 0 where
-  pub job : rules.Job
-  pub stands : Stands j job
-  pub grids : Grids job
-
-abbrev pub isLettered : rules.Job → Bool
-isLettered (north-east n m) = true
-isLettered (dyck n) = true
-isLettered (delannoy n m) = true
-isLettered (schroder n) = true
-isLettered (motzkin n) = true
-isLettered (directed fenced n m s pairs) = false
-
-abbrev pub Sits : rules.Job → Spot → Type 0
-Sits (north-east n m) q = Plain (endOf (north-east n m)) q
-Sits (dyck n) q = ⊥
-Sits (delannoy n m) q = Plain (endOf (delannoy n m)) q
-Sits (schroder n) q = ⊥
-Sits (motzkin n) q = ⊥
-Sits (directed fenced n m s pairs) q = Slope s (endOf (directed fenced n m s pairs)) q
+use Rattle.tables.specs.declared.Wall.{Wall}
 
 abbrev pub stepsAt : Shape → Steps
-stepsAt s = stepsIn (s .k) (s .f) (s .sa) (s .sc)
+stepsAt s = stepsIn (s .k) (s .wall) (s .sa) (s .sc)
 
 abbrev pub endAt : Shape → Spot
 endAt s = spot (s .ex) (s .ey)
@@ -78,15 +45,16 @@ pub data Shows (G : Steps) (q : Spot) (s : Shape) : Type 0 where
   mirrored : (d : ℕ) → Mirrored d G (stepsAt s) → Across d (endAt s) q → Shows G q s
 
 abbrev pub FormOf : Shape → Type 0
-FormOf s = Form (s .k) (s .f) (s .sa) (s .sc) (s .top) (s .ex) (s .ey) × (s .ex ≤ 32)
+FormOf s = Form (s .k) (s .wall) (s .sa) (s .sc) (s .top) (s .ex) (s .ey) × (s .ex ≤ 32)
 
-pub record Fits (J : rules.Job) (s : Shape) : Type 0 where
+pub record Fits (J : rules.Job) (lettered : Bool) (s : Shape) : Type 0 where
+  pub steps : Steps
   pub end : Spot
-  pub sits : Sits J end
-  pub shows : Shows (gridOf J) end s
+  pub gridded : Gridded J lettered steps end
+  pub shows : Shows steps end s
 
 pub data Shaped (J : rules.Job) (s : Shape) : Type 0 where
-  worked : s .state ≡ 0 → isLettered J ≡ false → FormOf s → Fits J s → Shaped J s
+  worked : s .state ≡ 0 → FormOf s → Fits J false s → Shaped J s
   nothing : s .state ≡ 1 → countOf J ≡ 0 → ((e : List ℕ) → Valid J e → ⊥) → Shaped J s
 
 -- whatever job the held job j stands for
@@ -103,6 +71,11 @@ pub record Ranged (j : Job) : Type 0 where
   pub b-least : (i : ℕ) → i < j .k → 125 ≤ getD (j .b) i 0
   pub b-most : (i : ℕ) → i < j .k → getD (j .b) i 0 ≤ 131
 
+pub record Fenced (f : Wall) : Type 0 where
+  pub no-roof : f .roof ≡ false
+  pub slope-le : f .slope ≤ 3
+  pub start-le : f .start ≤ 32
+
 -- the first i steps are laid, and the others aren't there
 pub record Laying (a b sa sc : List ℕ) (i : ℕ) : Type 0 where
   pub eight : length sa ≡ 8
@@ -112,10 +85,10 @@ pub record Laying (a b sa sc : List ℕ) (i : ℕ) : Type 0 where
   pub away : (j : ℕ) → i ≤ j → j < 8 → getD sa j 0 ≡ 100
   pub flat : (j : ℕ) → i ≤ j → j < 8 → getD sc j 0 ≡ 0
 
-pub record Laid (j : Job) (f : ℕ) (s : Shape) : Type 0 where
+pub record Laid (j : Job) (f : Wall) (s : Shape) : Type 0 where
   pub state-is : s .state ≡ bit (ltb (j .m + 3 * j .n) 128)
   pub k-is : s .k ≡ j .k
-  pub f-is : s .f ≡ f
+  pub wall-is : s .wall ≡ f
   pub top-is : s .top ≡ 12
   pub ex-is : s .ex ≡ j .n
   pub ey-is : s .ey ≡ j .m + 3 * j .n - 128
@@ -124,7 +97,7 @@ pub record Laid (j : Job) (f : ℕ) (s : Shape) : Type 0 where
 pub record Gentle (s : Shape) : Type 0 where
   pub state-is : s .state ≡ 0
   pub top-is : s .top ≡ 12
-  pub fence : s .f ≤ 3
+  pub fenced : Fenced (s .wall)
   pub wide : s .ex ≤ 32
   pub some : 1 ≤ s .k
   pub eight : length (s .sa) ≡ 8
@@ -144,10 +117,10 @@ pub record View (t : Bool) (d : ℕ) (s : Shape) : Type 0 where
   pub gentle : Gentle s
   pub bounds : Bounds t d (s .k) (s .sa) (s .sc)
   pub end : Beside t (s .ey) (d * s .ex)
-  pub slope : T t → s .f ≤ d
+  pub slope : T t → s .wall .slope ≤ d
   pub near : (r : ℕ) → Height t (s .ey) (d * s .ex) r → r ≤ 96
 
 -- no height of the job's own grid is below 0, so nothing leads to an end that is
-pub data Chosen (j : Job) (f : ℕ) (r : Shape) : Type 0 where
+pub data Chosen (j : Job) (f : Wall) (r : Shape) : Type 0 where
   sunk : Laid j f r → r .state ≡ 1 → Chosen j f r
   lowered : (s : Shape) → Laid j f s → s .state ≡ 0 → Lowered s r → Chosen j f r

@@ -14,17 +14,18 @@ use Rattle.rules.specs.Refusals.Refusal.{over, beyond}
 use Rattle.rules.specs.Refusals.Answer.{accepted}
 use Rattle.rules.specs.Answers.{most}
 use Rattle.rules.specs.Questions.{allBelow}
-use Rattle.tables.specs.Form.{W}
-use Rattle.tables.specs.Edges.{edgeOf}
+use Rattle.tables.specs.Form.{walksTo}
+use Rattle.tables.specs.Edges.{walkOf}
+use Rattle.tables.specs.declared.Wall.{Wall}
 
 pub record Front (e old new : List ℕ) (n : ℕ) : Type 0 where
   pub shown : new ≡ e ++ drop n old
   pub long : n ≡ length e
   pub short : n ≤ 128
 
-abbrev pub edgesBy : Bool → ℕ → ℕ → List ℕ → List ℕ → ℕ → ℕ → List ℕ → List (List ℕ)
-edgesBy lettered k f sa sc ex ey ns = map (edgeOf lettered k f sa sc ex ey) ns
+abbrev pub edgesBy : Bool → ℕ → Wall → List ℕ → List ℕ → ℕ → ℕ → List ℕ → List (List ℕ)
+edgesBy lettered k f sa sc ex ey ns = map (walkOf lettered k f sa sc ex ey) ns
 
-abbrev pub edgesFor : Bool → ℕ → ℕ → List ℕ → List ℕ → ℕ → ℕ → List ℕ → Answer (List (List ℕ))
+abbrev pub edgesFor : Bool → ℕ → Wall → List ℕ → List ℕ → ℕ → ℕ → List ℕ → Answer (List (List ℕ))
 edgesFor lettered k f sa sc ex ey ns =
-    check (leb (W k f sa sc ex ey) most) over (check (allBelow (W k f sa sc ex ey) ns) beyond (accepted (edgesBy lettered k f sa sc ex ey ns)))
+    check (leb (walksTo k f sa sc ex ey) most) over (check (allBelow (walksTo k f sa sc ex ey) ns) beyond (accepted (edgesBy lettered k f sa sc ex ey ns)))

@@ -46,7 +46,7 @@ same-length-2 c = search needs
 returns-4 : tie.Need-returns-4
 returns-4 c =
     let h = rw (c .before .before .before .before .before .before .before .enum-told3 .given .1) at (c .before .before .before .before .before .before .before .before .before .known-of .ensures) in
-    lines-ending (c .before .before .before .before .before .before .before .before .before .before .before .before .before .before .before .args .block .now) _ _ _ (c .before .before .before .before .before .before .before .before .before .before .has-room .ensures) _ _ _ (h .ending) (c .before .before .before .before .spell-edges .ensures (h .shape .job) (h .shape .range) (h .shape .grids) (h .shape .shaped))
+    lines-ending (c .before .before .before .before .before .before .before .before .before .before .before .before .before .before .before .args .block .now) _ _ _ (c .before .before .before .before .before .before .before .before .before .before .has-room .ensures) _ _ _ (h .ending) (c .before .before .before .before .spell-edges .ensures (h .shape .job) (h .shape .shaped))
 
 pub build-all-spec : {M : Type 1} → statement M
 build-all-spec =

@@ -37,7 +37,7 @@ returns-3 c = count-refusing (c .before .before .before .before .before .args .b
 returns-4 : tie.Need-returns-4
 returns-4 c =
     let h = rw (c .before .enum-told3 .given .1) at (c .before .before .before .known-of .ensures) in
-    count-ending (c .before .before .before .before .before .args .block .now) (c .count .result) (h .ending) (c .count .ensures (h .shape .job) (h .shape .range) (h .shape .shaped))
+    count-ending (c .before .before .before .before .before .args .block .now) (c .count .result) (h .ending) (c .count .ensures (h .shape .job) (h .shape .shaped))
 
 pub count-spec : {M : Type 1} → statement M
 count-spec =

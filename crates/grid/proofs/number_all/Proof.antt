@@ -39,7 +39,7 @@ same-length c = search needs
 returns-4 : tie.Need-returns-4
 returns-4 c =
     let h = rw (c .before .before .before .before .enum-told3 .given .1) at (c .before .before .before .before .before .before .known-of .ensures) in
-    ranks-ending (c .before .before .before .before .before .before .before .before .before .before .before .args .block .now) _ _ _ refl _ _ (h .ending) (c .before .before .number-edges .ensures (h .shape .job) (h .shape .range) (h .shape .grids) (h .shape .shaped))
+    ranks-ending (c .before .before .before .before .before .before .before .before .before .before .before .args .block .now) _ _ _ refl _ _ (h .ending) (c .before .before .number-edges .ensures (h .shape .job) (h .shape .shaped))
 
 pub number-all-spec : {M : Type 1} → statement M
 number-all-spec =

@@ -18,7 +18,7 @@ fence-at-requires c κs = search needs
 
 add-if1 : tie.Need-add-if1
 add-if1 c =
-    let h = mul-bound (c .before .before .args .f) (c .before .before .args .x) 100 97 (omega arith) (omega arith) in
+    let h = mul-bound (c .before .before .args .f .slope) (c .before .before .args .x) 100 97 (c .before .before .pre .0 .slope-le) (omega arith) in
     let g = mul-bound (c .before .before .args .hi) (c .before .before .args .ex - c .before .before .args .x) 1000 97 (omega arith) (omega arith) in
     omega (arith, c .fence-at .ensures .most, c .before .reach-of .ensures .0)
 

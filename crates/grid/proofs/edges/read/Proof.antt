@@ -5,43 +5,43 @@ use mathlib.Core.Bool.{false}
 use borrow.Author.Tests.{not-true, not-false}
 use Rattle.howmany.proofs.Choices.{holds}
 use Rattle.tables.proofs.Phases.{place-sum, end-placed}
-use Rattle.tables.proofs.Numbers.{Walking, walking-start, last-in, stays-fits, step-in, step-byte, not-inside, not-letter, not-right, not-up, stepped, ends-fit, not-start, walking-end}
+use Rattle.tables.proofs.Numbers.{Walking, walking-start, last-in, stays-fits, step-in, step-byte, not-inside, not-letter, not-right, not-up, stepped, step-sum, reads-summed, ends-fit, not-start, walking-end}
 use Rattle.grid.proofs.edges.read.Statement.{statement}
 use Rattle.grid.proofs.edges.read.Tie as tie
 
 abbrev Inv-loop : tie.InvT-loop
-Inv-loop val sa sc off p e acc₀ x₀ y₀ at₀ i₀ acc x y at i = Walking false p sa sc off val e acc x y at i
+Inv-loop val sa sc off p e wall acc₀ x₀ y₀ at₀ i₀ acc x y at i = Walking false p sa sc off val e acc x y at i
 
 abbrev μ-loop : tie.MeasureT-loop
-μ-loop val sa sc off p e acc₀ x₀ y₀ at₀ i₀ acc x y at i = i
+μ-loop val sa sc off p e wall acc₀ x₀ y₀ at₀ i₀ acc x y at i = i
 
 add-at : tie.Need-add-at Inv-loop μ-loop
 add-at c =
-    record { fits = end-placed (c .before .before .before .pre .ready .sizes) .next }
+    record { fits = end-placed (c .before .before .before .before .pre .ready .sizes) .next }
 
 add-at-2 : tie.Need-add-at-2 Inv-loop μ-loop
 add-at-2 c =
-    record { fits = end-placed (c .before .before .before .before .pre .ready .sizes) .tall }
+    record { fits = end-placed (c .before .before .before .before .before .pre .ready .sizes) .tall }
 
 add-at-3 : tie.Need-add-at-3 Inv-loop μ-loop
 add-at-3 c =
-    record { fits = end-placed (c .before .before .before .before .pre .ready .sizes) .stride }
+    record { fits = end-placed (c .before .before .before .before .before .pre .ready .sizes) .stride }
 
 mul-at : tie.Need-mul-at Inv-loop μ-loop
 mul-at c =
-    record { fits = end-placed (c .before .before .before .before .pre .ready .sizes) .column }
+    record { fits = end-placed (c .before .before .before .before .before .pre .ready .sizes) .column }
 
 add-at-4 : tie.Need-add-at-4 Inv-loop μ-loop
 add-at-4 c =
-    record { fits = end-placed (c .before .before .before .before .before .pre .ready .sizes) .base }
+    record { fits = end-placed (c .before .before .before .before .before .before .pre .ready .sizes) .base }
 
 add-at-5 : tie.Need-add-at-5 Inv-loop μ-loop
 add-at-5 c =
-    record { fits = end-placed (c .before .before .before .before .before .before .pre .ready .sizes) .cell }
+    record { fits = end-placed (c .before .before .before .before .before .before .before .pre .ready .sizes) .cell }
 
 loop-holds : tie.Need-loop-holds Inv-loop μ-loop
 loop-holds c =
-    walking-start (c .before .before .before .before .before .before .pre) (place-sum _ _ _ _)
+    walking-start (c .before .before .before .before .before .before .before .pre) (place-sum _ _ _ _)
 
 sub-i : tie.Need-sub-i Inv-loop μ-loop
 sub-i c =
@@ -93,11 +93,11 @@ returns-4 c =
 
 part-sum-requires : tie.Need-part-sum-requires Inv-loop μ-loop
 part-sum-requires c κs =
-    let t = stepped (c .before .before .before .before .before .before .before .before .before .before .before .loop .inv) (c .before .before .before .before .before .before .before .before .before .before .loop-test .taken) (c .before .before .before .before .before .before .before .before .place-of .ensures) (holds (sym (c .before .before .before .before .before .before .before .stays .ensures) ∙ not-false _ (c .before .before .before .before .before .before .if1 .left))) (c .before .before .before .before .if2 .left) (c .before .before .if3 .left) (c .if4 .left) in (t .below, t .reads)
+    let t = stepped (c .before .before .before .before .before .before .before .before .before .before .before .loop .inv) (c .before .before .before .before .before .before .before .before .before .before .loop-test .taken) (c .before .before .before .before .before .before .before .before .place-of .ensures) (holds (sym (c .before .before .before .before .before .before .before .stays .ensures) ∙ not-false _ (c .before .before .before .before .before .before .if1 .left))) (c .before .before .before .before .if2 .left) (c .before .before .if3 .left) (c .if4 .left) in reads-summed (t .reads) _ (t .below)
 
 add-acc : tie.Need-add-acc Inv-loop μ-loop
 add-acc c =
-    record { fits = stepped (c .before .before .before .before .before .before .before .before .before .before .before .before .loop .inv) (c .before .before .before .before .before .before .before .before .before .before .before .loop-test .taken) (c .before .before .before .before .before .before .before .before .before .place-of .ensures) (holds (sym (c .before .before .before .before .before .before .before .before .stays .ensures) ∙ not-false _ (c .before .before .before .before .before .before .before .if1 .left))) (c .before .before .before .before .before .if2 .left) (c .before .before .before .if3 .left) (c .before .if4 .left) .fits (c .part-sum .ensures) }
+    let t = stepped (c .before .before .before .before .before .before .before .before .before .before .before .before .loop .inv) (c .before .before .before .before .before .before .before .before .before .before .before .loop-test .taken) (c .before .before .before .before .before .before .before .before .before .place-of .ensures) (holds (sym (c .before .before .before .before .before .before .before .before .stays .ensures) ∙ not-false _ (c .before .before .before .before .before .before .before .if1 .left))) (c .before .before .before .before .before .if2 .left) (c .before .before .before .if3 .left) (c .before .if4 .left) in record { fits = t .fits (step-sum t (c .part-sum .ensures)) }
 
 mul-at-2 : tie.Need-mul-at-2 Inv-loop μ-loop
 mul-at-2 c =
@@ -117,7 +117,7 @@ loop-less c =
 
 loop-again : tie.Need-loop-again Inv-loop μ-loop
 loop-again c =
-    stepped (c .before .before .before .before .before .before .before .before .before .before .before .before .before .loop .inv) (c .before .before .before .before .before .before .before .before .before .before .before .before .loop-test .taken) (c .before .before .before .before .before .before .before .before .before .before .place-of .ensures) (holds (sym (c .before .before .before .before .before .before .before .before .before .stays .ensures) ∙ not-false _ (c .before .before .before .before .before .before .before .before .if1 .left))) (c .before .before .before .before .before .before .if2 .left) (c .before .before .before .before .if3 .left) (c .before .before .if4 .left) .next (c .before .part-sum .ensures)
+    let t = stepped (c .before .before .before .before .before .before .before .before .before .before .before .before .before .loop .inv) (c .before .before .before .before .before .before .before .before .before .before .before .before .loop-test .taken) (c .before .before .before .before .before .before .before .before .before .before .place-of .ensures) (holds (sym (c .before .before .before .before .before .before .before .before .before .stays .ensures) ∙ not-false _ (c .before .before .before .before .before .before .before .before .if1 .left))) (c .before .before .before .before .before .before .if2 .left) (c .before .before .before .before .if3 .left) (c .before .before .if4 .left) in t .next (step-sum t (c .before .part-sum .ensures))
 
 add-if5 : tie.Need-add-if5 Inv-loop μ-loop
 add-if5 c =

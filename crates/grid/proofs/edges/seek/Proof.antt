@@ -3,17 +3,17 @@ use mathlib.Core.Path.{_≡_}
 use Prim.Native.Nat.{_+_, _-_, _<_}
 use native.Mathlib.Omega.{arith}
 use Rattle.howmany.specs.Sum.{sum}
-use Rattle.tables.specs.Form.{via}
+use Rattle.tables.specs.Edges.{broughtAt}
 use Rattle.tables.proofs.Numbers.{read-in, read-is}
 use Rattle.tables.proofs.Building.{seek-here, seek-more, seek-in, seek-start}
 use Rattle.grid.proofs.edges.seek.Statement.{statement}
 use Rattle.grid.proofs.edges.seek.Tie as tie
 
 abbrev Inv-loop : tie.InvT-loop
-Inv-loop val sa sc off k f x y p r left₀ i₀ left i = (i < k) × (sum (via k f sa sc x y) i + left ≡ r)
+Inv-loop val sa off k x at r left₀ i₀ left i = (i < k) × (sum (broughtAt sa off val x at) i + left ≡ r)
 
 abbrev μ-loop : tie.MeasureT-loop
-μ-loop val sa sc off k f x y p r left₀ i₀ left i = 8 - i
+μ-loop val sa off k x at r left₀ i₀ left i = 8 - i
 
 loop-holds : tie.Need-loop-holds Inv-loop μ-loop
 loop-holds c = seek-start _ _ _ (c .before .pre .1)

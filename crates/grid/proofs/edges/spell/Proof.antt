@@ -3,7 +3,7 @@ use mathlib.Core.Path.{_≡_, refl}
 use mathlib.Core.Bool.{false}
 use lib.ListN.{length, length-set}
 use Rattle.tables.proofs.Phases.{place-sum, end-placed}
-use Rattle.tables.proofs.Building.{Writing, writing-start, reads-of, left-of, written, write-from, writing-end}
+use Rattle.tables.proofs.Building.{Writing, writing-start, seek-needs, picked, write-from, writing-end}
 use Rattle.grid.proofs.edges.spell.Statement.{statement}
 use Rattle.grid.proofs.edges.spell.Tie as tie
 
@@ -44,53 +44,53 @@ loop-holds c =
 
 seek-requires : tie.Need-seek-requires Inv-loop μ-loop
 seek-requires c κs =
-    (reads-of (c .before .loop .inv .1) (c .loop-test .taken), left-of (c .before .loop .inv .1) (c .loop-test .taken))
+    seek-needs (c .before .loop .inv .1) (c .loop-test .taken)
 
 sub-s : tie.Need-sub-s Inv-loop μ-loop
 sub-s c =
-    written (c .before .before .loop .inv .1) (c .before .loop-test .taken) _ _ (c .seek .ensures .0) .least
+    picked (c .before .before .loop .inv .1) (c .before .loop-test .taken) (c .seek .ensures .0) .least
 
 glyph-of-requires : tie.Need-glyph-of-requires Inv-loop μ-loop
 glyph-of-requires c κs =
-    written (c .before .before .loop .inv .1) (c .before .loop-test .taken) _ _ (c .seek .ensures .0) .below
+    picked (c .before .before .loop .inv .1) (c .before .loop-test .taken) (c .seek .ensures .0) .below
 
 slice-write-buf : tie.Need-slice-write-buf Inv-loop μ-loop
 slice-write-buf c =
-    written (c .before .before .before .loop .inv .1) (c .before .before .loop-test .taken) _ _ (c .before .seek .ensures .0) .inside
+    picked (c .before .before .before .loop .inv .1) (c .before .before .loop-test .taken) (c .before .seek .ensures .0) .inside
 
 mul-x : tie.Need-mul-x Inv-loop μ-loop
 mul-x c =
-    record { fits = written (c .before .before .before .loop .inv .1) (c .before .before .loop-test .taken) _ _ (c .before .seek .ensures .0) .byte }
+    record { fits = picked (c .before .before .before .loop .inv .1) (c .before .before .loop-test .taken) (c .before .seek .ensures .0) .byte }
 
 element-copy-out-x : tie.Need-element-copy-out-x Inv-loop μ-loop
 element-copy-out-x c =
-    written (c .before .before .before .loop .inv .1) (c .before .before .loop-test .taken) _ _ (c .before .seek .ensures .0) .below
+    picked (c .before .before .before .loop .inv .1) (c .before .before .loop-test .taken) (c .before .seek .ensures .0) .below
 
 sub-x : tie.Need-sub-x Inv-loop μ-loop
 sub-x c =
-    written (c .before .before .before .before .loop .inv .1) (c .before .before .before .loop-test .taken) _ _ (c .before .before .seek .ensures .0) .right
+    picked (c .before .before .before .before .loop .inv .1) (c .before .before .before .loop-test .taken) (c .before .before .seek .ensures .0) .right
 
 mul-y : tie.Need-mul-y Inv-loop μ-loop
 mul-y c =
-    record { fits = written (c .before .before .before .before .loop .inv .1) (c .before .before .before .loop-test .taken) _ _ (c .before .before .seek .ensures .0) .byte }
+    record { fits = picked (c .before .before .before .before .loop .inv .1) (c .before .before .before .loop-test .taken) (c .before .before .seek .ensures .0) .byte }
 
 element-copy-out-y : tie.Need-element-copy-out-y Inv-loop μ-loop
 element-copy-out-y c =
-    written (c .before .before .before .before .loop .inv .1) (c .before .before .before .loop-test .taken) _ _ (c .before .before .seek .ensures .0) .below
+    picked (c .before .before .before .before .loop .inv .1) (c .before .before .before .loop-test .taken) (c .before .before .seek .ensures .0) .below
 
 sub-y : tie.Need-sub-y Inv-loop μ-loop
 sub-y c =
-    written (c .before .before .before .before .before .loop .inv .1) (c .before .before .before .before .loop-test .taken) _ _ (c .before .before .before .seek .ensures .0) .up
+    picked (c .before .before .before .before .before .loop .inv .1) (c .before .before .before .before .loop-test .taken) (c .before .before .before .seek .ensures .0) .up
 
 loop-less : tie.Need-loop-less Inv-loop μ-loop
 loop-less c =
-    written (c .before .before .before .before .before .loop .inv .1) (c .before .before .before .before .loop-test .taken) _ _ (c .before .before .before .seek .ensures .0) .ahead
+    picked (c .before .before .before .before .before .loop .inv .1) (c .before .before .before .before .loop-test .taken) (c .before .before .before .seek .ensures .0) .ahead
 
 loop-again : tie.Need-loop-again Inv-loop μ-loop
 loop-again c =
     let w = c .before .before .before .before .before .loop .inv in
     let q = c .before .before .before .seek .ensures in
-    (simp length-set (w .0), write-from (written (w .1) (c .before .before .before .before .loop-test .taken) _ _ (q .0)) (q .1) (c .before .before .glyph-of .ensures))
+    (simp length-set (w .0), write-from (picked (w .1) (c .before .before .before .before .loop-test .taken) (q .0)) (q .1) (c .before .before .glyph-of .ensures))
 
 same-length : tie.Need-same-length Inv-loop μ-loop
 same-length c =

@@ -9,7 +9,7 @@ use Rattle.grid.proofs.numbering.number_edges.Statement.{statement}
 use Rattle.grid.proofs.numbering.number_edges.Tie as tie
 
 returns : tie.Need-returns
-returns c = λ J r g w. numbers-none J _ _ (state-none J _ w (c .if1 .taken)) (state-empty J _ w (c .if1 .taken))
+returns c = λ J w. numbers-none J _ _ (state-none J _ w (c .if1 .taken)) (state-empty J _ w (c .if1 .taken))
 
 plan-of-requires : tie.Need-plan-of-requires
 plan-of-requires c κs = form-of (c .if1 .left) (c .before .before .before .before .pre .0)

@@ -1,6 +1,6 @@
 -- `grid::numbering::number_in` meets its contract: by the table's answer and the edges read. Assumes nothing.
 use mathlib.Core.Bool.{false}
-use Rattle.tables.proofs.Phases.{filled-over, filled-count, filled-full}
+use Rattle.tables.proofs.Phases.{filled-over, filled-count, filled-readable}
 use Rattle.tables.proofs.Counted.{ranks-over, ranks-fit}
 use borrow.Author.Needs.{needs}
 use Rattle.grid.proofs.numbering.number_in.Statement.{statement}
@@ -22,7 +22,7 @@ enum-told-2 : tie.Need-enum-told-2
 enum-told-2 c = search needs
 
 number-each-requires : tie.Need-number-each-requires
-number-each-requires c κs = (filled-full (c .before .before .before .before .before .before .fill .ensures) (c .before .before .enum-told2 .given .1) (c .before .before .before .before .before .before .before .before .before .before .before .before .pre .0) (search needs), c .before .before .before .before .before .before .before .before .before .before .before .before .pre .2)
+number-each-requires c κs = (filled-readable (c .before .before .before .before .before .before .fill .ensures) (c .before .before .enum-told2 .given .1) (c .before .before .before .before .before .before .before .before .before .before .before .before .pre .0) (search needs), c .before .before .before .before .before .before .before .before .before .before .before .before .pre .2)
 
 same-length-2 : tie.Need-same-length-2
 same-length-2 c = search needs

@@ -1,6 +1,6 @@
 -- `grid::numbering::number_medium` meets its contract: a blank table of this size is lent. Assumes nothing.
 use native.Mathlib.Omega.{arith}
-use Rattle.tables.proofs.Planning.{begun-at}
+use Rattle.tables.proofs.Planning.{blank-at}
 use borrow.Author.Needs.{needs}
 use Rattle.grid.proofs.numbering.number_medium.Statement.{statement}
 use Rattle.grid.proofs.numbering.number_medium.Tie as tie
@@ -9,7 +9,7 @@ slice-aggregate-number-in : tie.Need-slice-aggregate-number-in
 slice-aggregate-number-in c = search needs
 
 number-in-requires : tie.Need-number-in-requires
-number-in-requires c κs = (begun-at (c .before .before .before .before .before .pre .0) 2496 (omega arith), c .before .before .before .before .before .pre .1, c .before .before .before .before .before .pre .2)
+number-in-requires c κs = (blank-at (c .before .before .before .before .before .pre .0) 2496 (omega arith), c .before .before .before .before .before .pre .1, c .before .before .before .before .before .pre .2)
 
 same-length : tie.Need-same-length
 same-length c = search needs

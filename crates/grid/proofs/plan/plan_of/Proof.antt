@@ -49,9 +49,9 @@ is-few-requires c κs = search needs
 
 returns : tie.Need-returns Inv-loop μ-loop
 returns c = record {
-  planned = record { form = c .before .before .before .before .before .pre .0; steep = steepest-at (c .before .before .before .before .loop .inv .1) (omega arith); deep = deepest-at (c .before .before .before .before .loop .inv .2) (omega arith); fewer = c .is-few .ensures };
+  planned = record { form = c .before .before .before .before .before .before .pre .0; steep = steepest-at (c .before .before .before .before .before .loop .inv .1) (omega arith); deep = deepest-at (c .before .before .before .before .before .loop .inv .2) (omega arith); fewer = c .before .is-few .ensures };
   k-is = refl;
-  f-is = refl;
+  wall-is = refl;
   ex-is = refl;
   ey-is = refl;
 }

@@ -37,7 +37,7 @@ loop-holds : tie.Need-loop-holds Inv-loop μ-loop
 loop-holds c = (omega arith, until-none (laid-start _ _))
 
 array-read-wide : tie.Need-array-read-wide Inv-loop μ-loop
-array-read-wide c = omega (arith, c .before .before .before .before .before .wide3 .ensures, c .before .before .before .before .before .before .before .before .pre .0 .few)
+array-read-wide c = omega (arith, c .before .before .before .before .before .wide3 .ensures, c .before .before .before .before .before .before .before .before .pre .few)
 
 wide-requires-4 : tie.Need-wide-requires-4 Inv-loop μ-loop
 wide-requires-4 c κs = search needs
@@ -46,28 +46,28 @@ mul-sa : tie.Need-mul-sa Inv-loop μ-loop
 mul-sa c = search needs
 
 array-write-sa : tie.Need-array-write-sa Inv-loop μ-loop
-array-write-sa c = omega (arith, c .before .before .before .before .before .before .wide3 .ensures, c .before .before .before .before .before .before .before .before .before .pre .0 .few, c .before .before .before .loop .inv .1 .so-far (omega arith) .eight)
+array-write-sa c = omega (arith, c .before .before .before .before .before .before .wide3 .ensures, c .before .before .before .before .before .before .before .before .before .pre .few, c .before .before .before .loop .inv .1 .so-far (omega arith) .eight)
 
 array-read-wide-2 : tie.Need-array-read-wide-2 Inv-loop μ-loop
-array-read-wide-2 c = omega (arith, c .before .before .before .before .before .before .wide3 .ensures, c .before .before .before .before .before .before .before .before .before .pre .0 .few)
+array-read-wide-2 c = omega (arith, c .before .before .before .before .before .before .wide3 .ensures, c .before .before .before .before .before .before .before .before .before .pre .few)
 
 wide-requires-5 : tie.Need-wide-requires-5 Inv-loop μ-loop
 wide-requires-5 c κs = search needs
 
 mul-sc : tie.Need-mul-sc Inv-loop μ-loop
-mul-sc c = omega (arith, c .before .wide4 .ensures, c .before .before .before .before .before .before .before .before .before .before .pre .0 .a-least (c .before .before .before .before .loop .i) (omega (arith, c .before .before .before .before .before .before .before .wide3 .ensures)), c .before .before .before .before .before .before .before .before .before .before .pre .0 .a-most (c .before .before .before .before .loop .i) (omega (arith, c .before .before .before .before .before .before .before .wide3 .ensures)))
+mul-sc c = omega (arith, c .before .wide4 .ensures, c .before .before .before .before .before .before .before .before .before .before .pre .a-least (c .before .before .before .before .loop .i) (omega (arith, c .before .before .before .before .before .before .before .wide3 .ensures)), c .before .before .before .before .before .before .before .before .before .before .pre .a-most (c .before .before .before .before .loop .i) (omega (arith, c .before .before .before .before .before .before .before .wide3 .ensures)))
 
 add-sc : tie.Need-add-sc Inv-loop μ-loop
-add-sc c = omega (arith, c .before .wide4 .ensures, c .wide5 .ensures, c .before .before .before .before .before .before .before .before .before .before .pre .0 .a-least (c .before .before .before .before .loop .i) (omega (arith, c .before .before .before .before .before .before .before .wide3 .ensures)), c .before .before .before .before .before .before .before .before .before .before .pre .0 .a-most (c .before .before .before .before .loop .i) (omega (arith, c .before .before .before .before .before .before .before .wide3 .ensures)), c .before .before .before .before .before .before .before .before .before .before .pre .0 .b-least (c .before .before .before .before .loop .i) (omega (arith, c .before .before .before .before .before .before .before .wide3 .ensures)), c .before .before .before .before .before .before .before .before .before .before .pre .0 .b-most (c .before .before .before .before .loop .i) (omega (arith, c .before .before .before .before .before .before .before .wide3 .ensures)))
+add-sc c = omega (arith, c .before .wide4 .ensures, c .wide5 .ensures, c .before .before .before .before .before .before .before .before .before .before .pre .a-least (c .before .before .before .before .loop .i) (omega (arith, c .before .before .before .before .before .before .before .wide3 .ensures)), c .before .before .before .before .before .before .before .before .before .before .pre .a-most (c .before .before .before .before .loop .i) (omega (arith, c .before .before .before .before .before .before .before .wide3 .ensures)), c .before .before .before .before .before .before .before .before .before .before .pre .b-least (c .before .before .before .before .loop .i) (omega (arith, c .before .before .before .before .before .before .before .wide3 .ensures)), c .before .before .before .before .before .before .before .before .before .before .pre .b-most (c .before .before .before .before .loop .i) (omega (arith, c .before .before .before .before .before .before .before .wide3 .ensures)))
 
 sub-sc : tie.Need-sub-sc Inv-loop μ-loop
-sub-sc c = omega (arith, c .before .wide4 .ensures, c .wide5 .ensures, c .before .before .before .before .before .before .before .before .before .before .pre .0 .a-least (c .before .before .before .before .loop .i) (omega (arith, c .before .before .before .before .before .before .before .wide3 .ensures)), c .before .before .before .before .before .before .before .before .before .before .pre .0 .a-most (c .before .before .before .before .loop .i) (omega (arith, c .before .before .before .before .before .before .before .wide3 .ensures)), c .before .before .before .before .before .before .before .before .before .before .pre .0 .b-least (c .before .before .before .before .loop .i) (omega (arith, c .before .before .before .before .before .before .before .wide3 .ensures)), c .before .before .before .before .before .before .before .before .before .before .pre .0 .b-most (c .before .before .before .before .loop .i) (omega (arith, c .before .before .before .before .before .before .before .wide3 .ensures)))
+sub-sc c = omega (arith, c .before .wide4 .ensures, c .wide5 .ensures, c .before .before .before .before .before .before .before .before .before .before .pre .a-least (c .before .before .before .before .loop .i) (omega (arith, c .before .before .before .before .before .before .before .wide3 .ensures)), c .before .before .before .before .before .before .before .before .before .before .pre .a-most (c .before .before .before .before .loop .i) (omega (arith, c .before .before .before .before .before .before .before .wide3 .ensures)), c .before .before .before .before .before .before .before .before .before .before .pre .b-least (c .before .before .before .before .loop .i) (omega (arith, c .before .before .before .before .before .before .before .wide3 .ensures)), c .before .before .before .before .before .before .before .before .before .before .pre .b-most (c .before .before .before .before .loop .i) (omega (arith, c .before .before .before .before .before .before .before .wide3 .ensures)))
 
 mul-sc-2 : tie.Need-mul-sc-2 Inv-loop μ-loop
 mul-sc-2 c = search needs
 
 array-write-sc : tie.Need-array-write-sc Inv-loop μ-loop
-array-write-sc c = omega (arith, c .before .before .before .before .before .before .before .wide3 .ensures, c .before .before .before .before .before .before .before .before .before .before .pre .0 .few, c .before .before .before .before .loop .inv .1 .so-far (omega arith) .eight-too)
+array-write-sc c = omega (arith, c .before .before .before .before .before .before .before .wide3 .ensures, c .before .before .before .before .before .before .before .before .before .before .pre .few, c .before .before .before .before .loop .inv .1 .so-far (omega arith) .eight-too)
 
 add-i : tie.Need-add-i Inv-loop μ-loop
 add-i c = search needs
@@ -86,10 +86,10 @@ loop-again c =
     )
 
 returns : tie.Need-returns Inv-loop μ-loop
-returns c = record { state-is = sym (ap bit (lt-ltb (c .before .before .before .before .before .before .before .before .args .job .m + 3 * c .before .before .before .before .before .before .before .before .args .job .n) 128 (omega (arith, c .before .before .before .before .before .before .before .wide .ensures, c .before .before .before .before .before .before .wide2 .ensures)))); k-is = c .before .before .before .before .before .wide3 .ensures; f-is = refl; top-is = refl; ex-is = c .before .before .before .before .before .before .before .wide .ensures; ey-is = omega (arith, c .before .before .before .before .before .before .before .wide .ensures, c .before .before .before .before .before .before .wide2 .ensures); steps = let k = c .before .before .before .before .before .wide3 .ensures in rw k at (until-all (c .before .before .loop .inv .1) (omega (arith, k, c .before .before .before .before .before .before .before .before .pre .0 .few)) (c .before .loop-test .left)) }
+returns c = record { state-is = sym (ap bit (lt-ltb (c .before .before .before .before .before .before .before .before .args .job .m + 3 * c .before .before .before .before .before .before .before .before .args .job .n) 128 (omega (arith, c .before .before .before .before .before .before .before .wide .ensures, c .before .before .before .before .before .before .wide2 .ensures)))); k-is = c .before .before .before .before .before .wide3 .ensures; wall-is = refl; top-is = refl; ex-is = c .before .before .before .before .before .before .before .wide .ensures; ey-is = omega (arith, c .before .before .before .before .before .before .before .wide .ensures, c .before .before .before .before .before .before .wide2 .ensures); steps = let k = c .before .before .before .before .before .wide3 .ensures in rw k at (until-all (c .before .before .loop .inv .1) (omega (arith, k, c .before .before .before .before .before .before .before .before .pre .few)) (c .before .loop-test .left)) }
 
 returns-2 : tie.Need-returns-2 Inv-loop μ-loop
-returns-2 c = record { state-is = sym (ap bit (le-ltb (c .before .before .before .before .before .before .before .before .args .job .m + 3 * c .before .before .before .before .before .before .before .before .args .job .n) 128 (omega (arith, c .before .before .before .before .before .before .before .wide .ensures, c .before .before .before .before .before .before .wide2 .ensures)))); k-is = c .before .before .before .before .before .wide3 .ensures; f-is = refl; top-is = refl; ex-is = c .before .before .before .before .before .before .before .wide .ensures; ey-is = omega (arith, c .before .before .before .before .before .before .before .wide .ensures, c .before .before .before .before .before .before .wide2 .ensures); steps = let k = c .before .before .before .before .before .wide3 .ensures in rw k at (until-all (c .before .before .loop .inv .1) (omega (arith, k, c .before .before .before .before .before .before .before .before .pre .0 .few)) (c .before .loop-test .left)) }
+returns-2 c = record { state-is = sym (ap bit (le-ltb (c .before .before .before .before .before .before .before .before .args .job .m + 3 * c .before .before .before .before .before .before .before .before .args .job .n) 128 (omega (arith, c .before .before .before .before .before .before .before .wide .ensures, c .before .before .before .before .before .before .wide2 .ensures)))); k-is = c .before .before .before .before .before .wide3 .ensures; wall-is = refl; top-is = refl; ex-is = c .before .before .before .before .before .before .before .wide .ensures; ey-is = omega (arith, c .before .before .before .before .before .before .before .wide .ensures, c .before .before .before .before .before .before .wide2 .ensures); steps = let k = c .before .before .before .before .before .wide3 .ensures in rw k at (until-all (c .before .before .loop .inv .1) (omega (arith, k, c .before .before .before .before .before .before .before .before .pre .few)) (c .before .loop-test .left)) }
 
 pub own-shape-spec : {M : Type 1} → statement M
 own-shape-spec =

@@ -14,14 +14,14 @@ heights-requires c κs = search needs
 
 wall-requires : tie.Need-wall-requires
 wall-requires c κs =
-    let v = c .before .before .before .before .before .before .pre in
-    (v .gentle .fence, v .bounds .small, v .slope)
+    let v = c .before .before .before .before .before .before .before .pre in
+    (v .gentle .fenced, v .bounds .small, v .slope)
 
 height-requires : tie.Need-height-requires
 height-requires c κs = search needs
 
 returns : tie.Need-returns
-returns c = view-lowered _ _ _ _ _ _ (c .before .before .before .before .before .before .before .before .pre) (c .before .wall .ensures) (c .height .ensures) (c .before .before .heights .ensures)
+returns c = view-lowered _ _ _ _ _ _ (c .before .before .before .before .before .before .before .before .before .pre) (c .before .wall .ensures) (c .height .ensures) (c .before .before .before .heights .ensures)
 
 pub seen-spec : {M : Type 1} → statement M
 seen-spec = tie.close (tie.spec mul-level heights-requires wall-requires height-requires returns)

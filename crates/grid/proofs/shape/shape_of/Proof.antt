@@ -1,25 +1,19 @@
 -- `grid::shape::shape_of` meets its contract: by family. Assumes nothing.
-use native.Mathlib.Omega.{arith}
-use Rattle.tables.proofs.Shaping.{sound-ranged, shaped-by}
+use mathlib.Core.Path.{subst, sym}
+use lib.Dec.{eqb}
+use Rattle.tables.specs.Shapes.{Fenced}
+use Rattle.tables.proofs.Shaping.{fence-fenced, shaped-by}
 use Rattle.grid.proofs.shape.shape_of.Statement.{statement}
 use Rattle.grid.proofs.shape.shape_of.Tie as tie
 
+fence-of-requires : tie.Need-fence-of-requires
+fence-of-requires c κs = tt
+
 directed-shape-requires : tie.Need-directed-shape-requires
-directed-shape-requires c κs =
-    (sound-ranged _ (c .before .pre .0) (c .before .pre .1), omega arith)
+directed-shape-requires c κs = (c .before .pre .0, subst Fenced (sym (c .fence-of .ensures)) (fence-fenced (eqb (c .before .args .job .family) 7)))
 
 returns : tie.Need-returns
-returns c =
-    shaped-by _ _ 0 (c .before .before .pre .1) (λ e. omega arith) (λ e. absurd (omega (arith, c .before .if1 .taken))) (c .directed-shape .ensures)
-
-directed-shape-requires-2 : tie.Need-directed-shape-requires-2
-directed-shape-requires-2 c κs =
-    (sound-ranged _ (c .before .pre .0) (c .before .pre .1), omega arith)
-
-returns-2 : tie.Need-returns-2
-returns-2 c =
-    shaped-by _ _ 3 (c .before .before .pre .1) (λ e. absurd (c .before .if1 .left e)) (λ e. omega arith) (c .directed-shape2 .ensures)
+returns c = shaped-by _ _ (c .before .before .pre .1) (c .before .fence-of .ensures) (c .directed-shape .ensures)
 
 pub shape-of-spec : {M : Type 1} → statement M
-shape-of-spec =
-    tie.close (tie.spec directed-shape-requires returns directed-shape-requires-2 returns-2)
+shape-of-spec = tie.close (tie.spec fence-of-requires directed-shape-requires returns)

@@ -9,10 +9,10 @@ use Rattle.grid.proofs.spelling.spell_edges.Statement.{statement}
 use Rattle.grid.proofs.spelling.spell_edges.Tie as tie
 
 returns : tie.Need-returns
-returns c = λ J r g w. build-none J _ _ _ (state-none J _ w (c .before .if1 .taken)) (c .if2 .taken)
+returns c = λ J w. build-none J _ _ _ (state-none J _ w (c .before .if1 .taken)) (c .if2 .taken)
 
 returns-2 : tie.Need-returns-2
-returns-2 c = λ J r g w. build-empty J _ _ _ (state-none J _ w (c .before .if1 .taken)) (c .if2 .left)
+returns-2 c = λ J w. build-empty J _ _ _ (state-none J _ w (c .before .if1 .taken)) (c .if2 .left)
 
 plan-of-requires : tie.Need-plan-of-requires
 plan-of-requires c κs = form-of (c .if1 .left) (c .before .before .before .before .pre .0)

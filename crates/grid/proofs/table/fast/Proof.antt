@@ -41,7 +41,7 @@ add-x : tie.Need-add-x Inv-loop μ-loop
 add-x c = let p = c .before .before .before .before .before .loop .inv .3 .sizes in omega arith
 
 same-length : tie.Need-same-length Inv-loop μ-loop
-same-length c = omega (arith, length-set (c .before .before .before .before .before .before .before .before .before .before .args .val .now) (c .before .before .before .before .before .before .before .before .before .before .args .p .m + c .before .before .before .before .before .before .before .before .before .before .args .p .ey + 1 + c .before .before .before .before .before .before .before .before .before .before .args .p .m) 1)
+same-length c = omega (arith, length-set (c .before .before .before .before .before .before .before .before .before .before .args .val .now) (c .before .before .before .before .before .before .before .before .before .before .args .p .deep + c .before .before .before .before .before .before .before .before .before .before .args .p .ey + 1 + c .before .before .before .before .before .before .before .before .before .before .args .p .deep) 1)
 
 returns : tie.Need-returns Inv-loop μ-loop
 returns c = record { table = c .before .before .before .step .ensures .table; start = omega arith; end = omega arith }
@@ -53,7 +53,7 @@ loop-again : tie.Need-loop-again Inv-loop μ-loop
 loop-again c = (omega arith, omega arith, omega arith, ready-len (c .before .before .before .before .before .before .loop .inv .3) (omega arith), c .before .before .before .step .ensures .table, c .before .before .before .step .ensures .small (not-false _ (c .if1 .left)))
 
 same-length-2 : tie.Need-same-length-2 Inv-loop μ-loop
-same-length-2 c = omega (arith, length-set (c .before .before .before .before .before .args .val .now) (c .before .before .before .before .before .args .p .m + c .before .before .before .before .before .args .p .ey + 1 + c .before .before .before .before .before .args .p .m) 1)
+same-length-2 c = omega (arith, length-set (c .before .before .before .before .before .args .val .now) (c .before .before .before .before .before .args .p .deep + c .before .before .before .before .before .args .p .ey + 1 + c .before .before .before .before .before .args .p .deep) 1)
 
 returns-2 : tie.Need-returns-2 Inv-loop μ-loop
 returns-2 c = record { table = c .before .loop .inv .4; start = c .before .loop .inv .0; end = c .before .loop .inv .1 }

@@ -1,7 +1,7 @@
 -- `rows::numbering::number_in` meets its contract: by the table's answer, and then edge by edge. Assumes nothing.
 use mathlib.Core.Bool.{true}
 use Rattle.rows.specs.Plains.{plainPlan}
-use Rattle.tables.proofs.Phases.{filled-over, filled-count, filled-full}
+use Rattle.tables.proofs.Phases.{filled-over, filled-count, filled-readable}
 use Rattle.tables.proofs.Counted.{ranks-over, ranks-fit}
 use borrow.Author.Needs.{needs}
 use Rattle.rows.proofs.numbering.number_in.Statement.{statement}
@@ -29,7 +29,7 @@ enum-told-2 c =
 
 number-each-requires : tie.Need-number-each-requires
 number-each-requires c κs =
-    (filled-full (c .before .before .before .before .before .before .fill-rows .ensures) (c .before .before .enum-told2 .given .1) (c .before .before .before .before .before .before .before .before .before .before .before .before .pre .0) (search needs), c .before .before .before .before .before .before .before .before .before .before .before .before .pre .1)
+    (filled-readable (c .before .before .before .before .before .before .fill-rows .ensures) (c .before .before .enum-told2 .given .1) (c .before .before .before .before .before .before .before .before .before .before .before .before .pre .0) (search needs), c .before .before .before .before .before .before .before .before .before .before .before .before .pre .1)
 
 same-length-2 : tie.Need-same-length-2
 same-length-2 c =

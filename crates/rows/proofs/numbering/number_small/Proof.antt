@@ -1,5 +1,5 @@
 -- `rows::numbering::number_small` meets its contract: a blank table of the smallest size that has room is lent. Assumes nothing.
-use Rattle.tables.proofs.Planning.{begun-at}
+use Rattle.tables.proofs.Planning.{blank-at}
 use borrow.Author.Needs.{needs}
 use Rattle.rows.proofs.numbering.number_small.Statement.{statement}
 use Rattle.rows.proofs.numbering.number_small.Tie as tie
@@ -9,7 +9,7 @@ slice-aggregate-number-in c = search needs
 
 number-in-requires : tie.Need-number-in-requires
 number-in-requires c κs =
-    (begun-at (c .before .before .before .before .before .before .pre .0) 128 (c .before .before .if1 .taken), c .before .before .before .before .before .before .pre .2)
+    (blank-at (c .before .before .before .before .before .before .pre .0) 128 (c .before .before .if1 .taken), c .before .before .before .before .before .before .pre .2)
 
 same-length : tie.Need-same-length
 same-length c = search needs
@@ -22,7 +22,7 @@ slice-aggregate-number-in-2 c = search needs
 
 number-in-requires-2 : tie.Need-number-in-requires-2
 number-in-requires-2 c κs =
-    (begun-at (c .before .before .before .before .before .before .before .pre .0) 384 (c .before .before .if2 .taken), c .before .before .before .before .before .before .before .pre .2)
+    (blank-at (c .before .before .before .before .before .before .before .pre .0) 384 (c .before .before .if2 .taken), c .before .before .before .before .before .before .before .pre .2)
 
 same-length-2 : tie.Need-same-length-2
 same-length-2 c = search needs
@@ -35,7 +35,7 @@ slice-aggregate-number-in-3 c = search needs
 
 number-in-requires-3 : tie.Need-number-in-requires-3
 number-in-requires-3 c κs =
-    (begun-at (c .before .before .before .before .before .before .before .pre .0) 1280 (c .before .before .before .before .before .before .before .pre .1), c .before .before .before .before .before .before .before .pre .2)
+    (blank-at (c .before .before .before .before .before .before .before .pre .0) 1280 (c .before .before .before .before .before .before .before .pre .1), c .before .before .before .before .before .before .before .pre .2)
 
 same-length-3 : tie.Need-same-length-3
 same-length-3 c = search needs

@@ -1,7 +1,7 @@
 -- `rows::table::fill_rows` meets its contract: the end's cell of a table whose rows all fit has the count. Assumes nothing.
 use mathlib.Core.Path.{refl}
 use native.Mathlib.Omega.{arith}
-use Rattle.tables.proofs.Phases.{end-room, end-cells, got-filled}
+use Rattle.tables.proofs.Phases.{end-room, end-cells, filled-to-end}
 use Rattle.rows.proofs.Along.{rows-over}
 use borrow.Author.Needs.{needs}
 use borrow.Author.Tests.{not-true, not-false}
@@ -35,7 +35,7 @@ same-length-2 c = search needs
 
 returns-2 : tie.Need-returns-2
 returns-2 c =
-    got-filled (c .before .before .before .before .before .all-rows .ensures .got (not-false _ (c .before .before .if1 .left))) refl (λ j. omega (arith, c .before .before .before .slice-known2 .given j)) refl (c .before .end-of .ensures)
+    filled-to-end (c .before .before .before .before .before .all-rows .ensures .got (not-false _ (c .before .before .if1 .left))) refl (λ j. omega (arith, c .before .before .before .slice-known2 .given j)) refl (c .before .end-of .ensures)
 
 pub fill-rows-spec : {M : Type 1} → statement M
 fill-rows-spec =
