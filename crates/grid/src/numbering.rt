@@ -5,7 +5,7 @@ ghost use lib.ListN.{length};
 ghost use Rattle.lines.specs.Lines.{cutFrom};
 ghost use Rattle.lines.proofs.Ranking.{Ranks};
 ghost use Rattle.tables.specs.Calls.{Countable, NumbersAs};
-ghost use Rattle.tables.specs.Plans.{Narrow, PreparedFor, validFor, rankFor, NumbersFor};
+ghost use Rattle.tables.specs.Plans.{Planned, Narrow, PreparedFor, validFor, rankFor, NumbersFor};
 ghost use Rattle.tables.specs.Filling.{Blank, Readable};
 use crate::edges::read;
 use crate::plan::cells_of;
@@ -129,6 +129,30 @@ fn number_large(
     number_in(&mut val, sa, sc, off, p, bytes, from, ends, numbers)
 }
 
+// The numbers of the edges by a plan, in a table of the smallest size that has room.
+fn number_planned(
+    sa: &[usize; 8],
+    sc: &[usize; 8],
+    p: Plan,
+    bytes: &[u8],
+    from: usize,
+    ends: &[usize],
+    numbers: &mut [u64],
+) -> Ranked
+    requires { ⌜ Planned (now sa) (now sc) p × Narrow p × (length (now ends) ≤ length (now numbers)) ⌝ }
+    ensures { λ r. ⌜ NumbersFor false p (now (sa .entry)) (now (sc .entry)) (cutFrom from (now (ends .entry)) (now (bytes .entry))) (now (numbers .entry)) (now (numbers .exit)) r ⌝ }
+{
+    let off = offsets(sa, sc, p);
+    let cells = cells_of(p);
+    if cells <= 1280 {
+        return number_small(sa, sc, &off, p, cells, bytes, from, ends, numbers);
+    }
+    if cells <= 2496 {
+        return number_medium(sa, sc, &off, p, bytes, from, ends, numbers);
+    }
+    number_large(sa, sc, &off, p, bytes, from, ends, numbers)
+}
+
 // The numbers of the edges of a job of the shape s, up to the first string that is none, or refusal 4.
 pub(crate) fn number_edges(
     s: Shape,
@@ -147,13 +171,5 @@ pub(crate) fn number_edges(
     let p = plan_of(s);
     let sa = s.sa;
     let sc = s.sc;
-    let off = offsets(&sa, &sc, p);
-    let cells = cells_of(p);
-    if cells <= 1280 {
-        return number_small(&sa, &sc, &off, p, cells, bytes, from, ends, numbers);
-    }
-    if cells <= 2496 {
-        return number_medium(&sa, &sc, &off, p, bytes, from, ends, numbers);
-    }
-    number_large(&sa, &sc, &off, p, bytes, from, ends, numbers)
+    number_planned(&sa, &sc, p, bytes, from, ends, numbers)
 }

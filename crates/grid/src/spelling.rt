@@ -8,7 +8,7 @@ ghost use Rattle.rules.specs.Questions.{allBelow};
 ghost use Rattle.tables.specs.Spelling.{Front};
 ghost use Rattle.tables.specs.Filling.{Blank, Readable};
 ghost use Rattle.tables.specs.Calls.{BuildsAs, Countable};
-ghost use Rattle.tables.specs.Plans.{Narrow, PreparedFor, walksFor, RoomFor, edgeFor, ListsFor, BuildsFor};
+ghost use Rattle.tables.specs.Plans.{Planned, Narrow, PreparedFor, walksFor, RoomFor, edgeFor, ListsFor, BuildsFor};
 use crate::edges::spell;
 use crate::plan::cells_of;
 use crate::plan::offsets;
@@ -144,6 +144,29 @@ fn spell_large(
     spell_in(&mut val, sa, sc, off, p, numbers, steps, ends)
 }
 
+// The edges of the numbers by a plan, over a table of the smallest size that has room.
+fn spell_planned(
+    sa: &[usize; 8],
+    sc: &[usize; 8],
+    p: Plan,
+    numbers: &[u64],
+    steps: &mut [u8],
+    ends: &mut [usize],
+) -> Built
+    requires { ⌜ Planned (now sa) (now sc) p × Narrow p × RoomFor (now numbers) (now steps) (now ends) ⌝ }
+    ensures { λ r. ⌜ BuildsFor false p (now (sa .entry)) (now (sc .entry)) (now (numbers .entry)) (now (steps .entry)) (now (ends .entry)) (now (steps .exit)) (now (ends .exit)) r ⌝ }
+{
+    let off = offsets(sa, sc, p);
+    let cells = cells_of(p);
+    if cells <= 1280 {
+        return spell_small(sa, sc, &off, p, cells, numbers, steps, ends);
+    }
+    if cells <= 2496 {
+        return spell_medium(sa, sc, &off, p, numbers, steps, ends);
+    }
+    spell_large(sa, sc, &off, p, numbers, steps, ends)
+}
+
 // The edges of the numbers of a job of the shape s, or refusal 4 or 6.
 pub(crate) fn spell_edges(s: Shape, numbers: &[u64], steps: &mut [u8], ends: &mut [usize]) -> Built
     requires { ⌜ Countable s × RoomFor (now numbers) (now steps) (now ends) ⌝ }
@@ -159,13 +182,5 @@ pub(crate) fn spell_edges(s: Shape, numbers: &[u64], steps: &mut [u8], ends: &mu
     let p = plan_of(s);
     let sa = s.sa;
     let sc = s.sc;
-    let off = offsets(&sa, &sc, p);
-    let cells = cells_of(p);
-    if cells <= 1280 {
-        return spell_small(&sa, &sc, &off, p, cells, numbers, steps, ends);
-    }
-    if cells <= 2496 {
-        return spell_medium(&sa, &sc, &off, p, numbers, steps, ends);
-    }
-    spell_large(&sa, &sc, &off, p, numbers, steps, ends)
+    spell_planned(&sa, &sc, p, numbers, steps, ends)
 }

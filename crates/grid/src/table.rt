@@ -155,6 +155,29 @@ fn rest(
     cell(val, &ov, (ex + 1) * (p.deep + p.ey + 1) + p.deep + p.ey)
 }
 
+// All columns, by their bounds; the answer is the count at the end.
+fn columns(
+    val: &mut [u64],
+    sa: &[usize; 8],
+    sc: &[usize; 8],
+    off: &[usize; 8],
+    starts: &[usize; 33],
+    stops: &[usize; 33],
+    p: Plan,
+) -> Tally
+    requires { ⌜ Blank p (now sa) (now sc) (now off) (now val) ⌝ }
+    requires { ⌜ SpansFor p (now starts) (now stops) ⌝ }
+    ensures { λ r. ⌜ Filled p (now (sa .entry)) (now (sc .entry)) (now (val .exit)) r ⌝ }
+{
+    let next = fast(val, sa, sc, off, starts, stops, p);
+    if next <= p.ex {
+        return rest(val, sa, sc, off, starts, stops, p, next);
+    }
+    let end = (p.ex + 1) * (p.deep + p.ey + 1) + p.deep + p.ey;
+    let v = val[end];
+    Tally::Count(v)
+}
+
 // The whole table; the answer is the count at the end.
 pub(crate) fn fill(
     val: &mut [u64],
@@ -170,11 +193,5 @@ pub(crate) fn fill(
     let mut stops = [0usize; 33];
     let wall = p.wall;
     spans(&mut starts, &mut stops, wall, p.hi, p.ex, p.ey);
-    let next = fast(val, sa, sc, off, &starts, &stops, p);
-    if next <= p.ex {
-        return rest(val, sa, sc, off, &starts, &stops, p, next);
-    }
-    let end = (p.ex + 1) * (p.deep + p.ey + 1) + p.deep + p.ey;
-    let v = val[end];
-    Tally::Count(v)
+    columns(val, sa, sc, off, &starts, &stops, p)
 }
