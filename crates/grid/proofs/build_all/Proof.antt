@@ -7,23 +7,9 @@ use borrow.Author.Needs.{needs}
 use Rattle.grid.proofs.build_all.Statement.{statement}
 use Rattle.grid.proofs.build_all.Tie as tie
 
-has-room-requires : tie.Need-has-room-requires
-has-room-requires c κs = search needs
-
-known-of-requires : tie.Need-known-of-requires
-known-of-requires c κs = search needs
-
-enum-told : tie.Need-enum-told
-enum-told c = search needs
-
-enum-told-2 : tie.Need-enum-told-2
-enum-told-2 c = search needs
-
-enum-known-told : tie.Need-enum-known-told
-enum-known-told c = search needs
-
-enum-told-3 : tie.Need-enum-told-3
-enum-told-3 c = search needs
+-- what `search` finds
+found : tie.Need-has-room-requires × tie.Need-known-of-requires × tie.Need-enum-told × tie.Need-enum-told-2 × tie.Need-enum-known-told × tie.Need-enum-told-3 × tie.Need-same-length × tie.Need-same-length-2
+found = search needs
 
 spell-edges-requires : tie.Need-spell-edges-requires
 spell-edges-requires c κs = let h = rw (c .before .before .enum-told3 .given .1) at (c .before .before .before .before .known-of .ensures) in (h .shape, room-of _ _ _ (sym (c .before .before .before .before .before .has-room .ensures) ∙ h .ending .roomy))
@@ -37,12 +23,6 @@ returns-2 c = lines-no-room (c .before .before .before .before .before .before .
 returns-3 : tie.Need-returns-3
 returns-3 c = lines-refusing (c .before .before .before .before .before .before .before .before .before .args .block .now) _ _ _ (c .before .before .before .before .has-room .ensures) (rw (c .before .told .given .1) at (c .before .before .before .known-of .ensures))
 
-same-length : tie.Need-same-length
-same-length c = search needs
-
-same-length-2 : tie.Need-same-length-2
-same-length-2 c = search needs
-
 returns-4 : tie.Need-returns-4
 returns-4 c =
     let h = rw (c .before .before .before .before .before .before .before .enum-told3 .given .1) at (c .before .before .before .before .before .before .before .before .before .known-of .ensures) in
@@ -52,16 +32,16 @@ pub build-all-spec : {M : Type 1} → statement M
 build-all-spec =
     tie.close
     (tie.spec
-    has-room-requires
-    known-of-requires
-    enum-told
-    enum-told-2
-    enum-known-told
-    enum-told-3
+    (found .0)
+    (found .1)
+    (found .2)
+    (found .3)
+    (found .4)
+    (found .5)
     spell-edges-requires
     returns
     returns-2
     returns-3
-    same-length
-    same-length-2
+    (found .6)
+    (found .7)
     returns-4)

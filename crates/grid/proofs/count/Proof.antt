@@ -7,20 +7,9 @@ use borrow.Author.Needs.{needs}
 use Rattle.grid.proofs.count.Statement.{statement}
 use Rattle.grid.proofs.count.Tie as tie
 
-known-of-requires : tie.Need-known-of-requires
-known-of-requires c κs = search needs
-
-enum-told : tie.Need-enum-told
-enum-told c = search needs
-
-enum-told-2 : tie.Need-enum-told-2
-enum-told-2 c = search needs
-
-enum-known-told : tie.Need-enum-known-told
-enum-known-told c = search needs
-
-enum-told-3 : tie.Need-enum-told-3
-enum-told-3 c = search needs
+-- what `search` finds
+found : tie.Need-known-of-requires × tie.Need-enum-told × tie.Need-enum-told-2 × tie.Need-enum-known-told × tie.Need-enum-told-3
+found = search needs
 
 count-requires : tie.Need-count-requires
 count-requires c κs = (rw (c .enum-told3 .given .1) at (c .before .before .known-of .ensures)) .shape
@@ -43,11 +32,11 @@ pub count-spec : {M : Type 1} → statement M
 count-spec =
     tie.close
     (tie.spec
-    known-of-requires
-    enum-told
-    enum-told-2
-    enum-known-told
-    enum-told-3
+    (found .0)
+    (found .1)
+    (found .2)
+    (found .3)
+    (found .4)
     count-requires
     returns
     returns-2

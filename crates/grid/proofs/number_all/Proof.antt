@@ -6,20 +6,9 @@ use borrow.Author.Needs.{needs}
 use Rattle.grid.proofs.number_all.Statement.{statement}
 use Rattle.grid.proofs.number_all.Tie as tie
 
-known-of-requires : tie.Need-known-of-requires
-known-of-requires c κs = search needs
-
-enum-told : tie.Need-enum-told
-enum-told c = search needs
-
-enum-told-2 : tie.Need-enum-told-2
-enum-told-2 c = search needs
-
-enum-known-told : tie.Need-enum-known-told
-enum-known-told c = search needs
-
-enum-told-3 : tie.Need-enum-told-3
-enum-told-3 c = search needs
+-- what `search` finds
+found : tie.Need-known-of-requires × tie.Need-enum-told × tie.Need-enum-told-2 × tie.Need-enum-known-told × tie.Need-enum-told-3 × tie.Need-same-length
+found = search needs
 
 number-edges-requires : tie.Need-number-edges-requires
 number-edges-requires c κs = let h = rw (c .before .enum-told3 .given .1) at (c .before .before .before .known-of .ensures) in (h .shape, roomed _ (c .before .before .before .before .before .before .before .before .args .numbers .now) refl (h .ending .roomy))
@@ -33,9 +22,6 @@ returns-2 c = ranks-no-room (c .before .before .before .before .before .before .
 returns-3 : tie.Need-returns-3
 returns-3 c = ranks-refusing (c .before .before .before .before .before .before .before .before .args .block .now) _ _ _ refl (rw (c .before .told .given .1) at (c .before .before .before .known-of .ensures))
 
-same-length : tie.Need-same-length
-same-length c = search needs
-
 returns-4 : tie.Need-returns-4
 returns-4 c =
     let h = rw (c .before .before .before .before .enum-told3 .given .1) at (c .before .before .before .before .before .before .known-of .ensures) in
@@ -45,14 +31,14 @@ pub number-all-spec : {M : Type 1} → statement M
 number-all-spec =
     tie.close
     (tie.spec
-    known-of-requires
-    enum-told
-    enum-told-2
-    enum-known-told
-    enum-told-3
+    (found .0)
+    (found .1)
+    (found .2)
+    (found .3)
+    (found .4)
     number-edges-requires
     returns
     returns-2
     returns-3
-    same-length
+    (found .5)
     returns-4)

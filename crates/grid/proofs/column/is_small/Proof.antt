@@ -20,14 +20,9 @@ abbrev μ-loop : tie.MeasureT-loop
 loop-holds : tie.Need-loop-holds Inv-loop μ-loop
 loop-holds c = (omega arith, omega arith, λ e k l. absurd (not-suc-le-zero l))
 
-add-above : tie.Need-add-above Inv-loop μ-loop
-add-above c = search needs
-
-mul-above : tie.Need-mul-above Inv-loop μ-loop
-mul-above c = search needs
-
-shared-slice-read-above : tie.Need-shared-slice-read-above Inv-loop μ-loop
-shared-slice-read-above c = search needs
+-- what `search` finds
+found : tie.Need-add-above Inv-loop μ-loop × tie.Need-mul-above Inv-loop μ-loop × tie.Need-shared-slice-read-above Inv-loop μ-loop × tie.Need-add-i Inv-loop μ-loop × tie.Need-loop-less Inv-loop μ-loop
+found = search needs
 
 add-above-2 : tie.Need-add-above-2 Inv-loop μ-loop
 add-above-2 c =
@@ -35,12 +30,6 @@ add-above-2 c =
       fits = above-fits _ _ (c .before .before .loop .i) (c .before .before .loop .inv .1)
           (high-le _ (omega (arith, c .shared-slice-known .given (c .before .before .before .args .d + c .before .before .loop .i)))) (omega arith);
     }
-
-add-i : tie.Need-add-i Inv-loop μ-loop
-add-i c = search needs
-
-loop-less : tie.Need-loop-less Inv-loop μ-loop
-loop-less c = search needs
 
 loop-again : tie.Need-loop-again Inv-loop μ-loop
 loop-again c =
@@ -60,11 +49,11 @@ is-small-spec =
     Inv-loop
     μ-loop
     loop-holds
-    add-above
-    mul-above
-    shared-slice-read-above
+    (found .0)
+    (found .1)
+    (found .2)
     add-above-2
-    add-i
-    loop-less
+    (found .3)
+    (found .4)
     loop-again
     returns)

@@ -6,17 +6,9 @@ use Rattle.tables.specs.Cells.{sourceOf}
 use Rattle.grid.proofs.column.source.Statement.{statement}
 use Rattle.grid.proofs.column.source.Tie as tie
 
-mul-if1 : tie.Need-mul-if1
-mul-if1 c = search needs
-
-element-copy-out-if1 : tie.Need-element-copy-out-if1
-element-copy-out-if1 c = search needs
-
-mul-result : tie.Need-mul-result
-mul-result c = search needs
-
-element-copy-out-result : tie.Need-element-copy-out-result
-element-copy-out-result c = search needs
+-- what `search` finds
+found : tie.Need-mul-if1 × tie.Need-element-copy-out-if1 × tie.Need-mul-result × tie.Need-element-copy-out-result
+found = search needs
 
 sub-result : tie.Need-sub-result
 sub-result c = omega (arith, c .before .before .before .pre .1 (omega arith))
@@ -33,10 +25,10 @@ pub source-spec : {M : Type 1} → statement M
 source-spec =
     tie.close
     (tie.spec
-    mul-if1
-    element-copy-out-if1
-    mul-result
-    element-copy-out-result
+    (found .0)
+    (found .1)
+    (found .2)
+    (found .3)
     sub-result
     returns
     returns-2)

@@ -7,14 +7,9 @@ use borrow.Author.Needs.{needs}
 use Rattle.grid.proofs.cone.from_at.Statement.{statement}
 use Rattle.grid.proofs.cone.from_at.Tie as tie
 
-sub-reach-of : tie.Need-sub-reach-of
-sub-reach-of c = search needs
-
-reach-of-requires : tie.Need-reach-of-requires
-reach-of-requires c κs = search needs
-
-fence-at-requires : tie.Need-fence-at-requires
-fence-at-requires c κs = search needs
+-- what `search` finds
+found : tie.Need-sub-reach-of × tie.Need-reach-of-requires × tie.Need-fence-at-requires × tie.Need-sub-result
+found = search needs
 
 add-if1 : tie.Need-add-if1
 add-if1 c =
@@ -25,13 +20,10 @@ add-if1 c =
 returns : tie.Need-returns
 returns c = from-fence (c .before .fence-at .ensures) _ (c .before .before .reach-of .ensures .0) (c .if1 .taken)
 
-sub-result : tie.Need-sub-result
-sub-result c = search needs
-
 returns-2 : tie.Need-returns-2
 returns-2 c = from-end (c .before .fence-at .ensures) _ (c .before .before .reach-of .ensures .0) (c .before .before .reach-of .ensures .1) (omega arith)
 
 pub from-at-spec : {M : Type 1} → statement M
 from-at-spec =
     tie.close
-    (tie.spec sub-reach-of reach-of-requires fence-at-requires add-if1 returns sub-result returns-2)
+    (tie.spec (found .0) (found .1) (found .2) add-if1 returns (found .3) returns-2)

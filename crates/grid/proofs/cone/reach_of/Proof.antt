@@ -7,8 +7,9 @@ use borrow.Author.Needs.{needs}
 use Rattle.grid.proofs.cone.reach_of.Statement.{statement}
 use Rattle.grid.proofs.cone.reach_of.Tie as tie
 
-mul-if1 : tie.Need-mul-if1
-mul-if1 c = search needs
+-- what `search` finds
+found : tie.Need-mul-if1 × tie.Need-returns-2
+found = search needs
 
 mul-result : tie.Need-mul-result
 mul-result c = let h = mul-bound (c .before .args .hi / 6) (c .before .args .x) 1000 97 (omega arith) (omega arith) in omega arith
@@ -19,8 +20,5 @@ mul-result-2 c = let h = mul-bound (c .before .args .hi) (c .before .args .x) 10
 returns : tie.Need-returns
 returns c = let h = sixth-of (c .before .args .hi) (c .before .args .hi / 6) (c .before .args .x) (c .if1 .taken) in (omega arith, omega arith)
 
-returns-2 : tie.Need-returns-2
-returns-2 c = search needs
-
 pub reach-of-spec : {M : Type 1} → statement M
-reach-of-spec = tie.close (tie.spec mul-if1 mul-result mul-result-2 returns returns-2)
+reach-of-spec = tie.close (tie.spec (found .0) mul-result mul-result-2 returns (found .1))

@@ -17,17 +17,15 @@ abbrev μ-loop : tie.MeasureT-loop
 loop-holds : tie.Need-loop-holds Inv-loop μ-loop
 loop-holds c = (omega arith, omega arith, c .pre .1 .0, c .pre .1 .1, spans-none (c .pre .0 .2))
 
-from-at-requires : tie.Need-from-at-requires Inv-loop μ-loop
-from-at-requires c κs = search needs
+-- what `search` finds
+found : tie.Need-from-at-requires Inv-loop μ-loop × tie.Need-to-at-requires Inv-loop μ-loop
+found = search needs
 
 mul-starts : tie.Need-mul-starts Inv-loop μ-loop
 mul-starts c = omega arith
 
 element-write-starts : tie.Need-element-write-starts Inv-loop μ-loop
 element-write-starts c = omega arith
-
-to-at-requires : tie.Need-to-at-requires Inv-loop μ-loop
-to-at-requires c κs = search needs
 
 mul-stops : tie.Need-mul-stops Inv-loop μ-loop
 mul-stops c = omega arith
@@ -54,10 +52,10 @@ spans-spec =
     Inv-loop
     μ-loop
     loop-holds
-    from-at-requires
+    (found .0)
     mul-starts
     element-write-starts
-    to-at-requires
+    (found .1)
     mul-stops
     element-write-stops
     add-x

@@ -4,17 +4,9 @@ use borrow.Author.Needs.{needs}
 use Rattle.grid.proofs.cone.to_at.Statement.{statement}
 use Rattle.grid.proofs.cone.to_at.Tie as tie
 
-reach-of-requires : tie.Need-reach-of-requires
-reach-of-requires c κs = search needs
-
-roof-at-requires : tie.Need-roof-at-requires
-roof-at-requires c κs = search needs
-
-add-result : tie.Need-add-result
-add-result c = search needs
-
-add-result-2 : tie.Need-add-result-2
-add-result-2 c = search needs
+-- what `search` finds
+found : tie.Need-reach-of-requires × tie.Need-roof-at-requires × tie.Need-add-result × tie.Need-add-result-2
+found = search needs
 
 returns : tie.Need-returns
 returns c = to-reach (c .before .roof-at .ensures) (c .before .before .reach-of .ensures .1) (c .if1 .taken)
@@ -25,4 +17,4 @@ returns-2 c = to-end (c .before .roof-at .ensures) (c .if1 .left)
 pub to-at-spec : {M : Type 1} → statement M
 to-at-spec =
     tie.close
-    (tie.spec reach-of-requires roof-at-requires add-result add-result-2 returns returns-2)
+    (tie.spec (found .0) (found .1) (found .2) (found .3) returns returns-2)

@@ -17,11 +17,9 @@ plan-of-requires c κs = form-of (c .if1 .left) (c .before .pre)
 count-walks-requires : tie.Need-count-walks-requires
 count-walks-requires c κs = (c .before .before .before .before .plan-of .ensures .planned, narrow-of (c .before .before .before .before .before .if1 .left) (c .before .before .before .before .plan-of .ensures) (c .before .before .before .before .before .before .pre))
 
-enum-known-c : tie.Need-enum-known-c
-enum-known-c c = search needs
-
-enum-told : tie.Need-enum-told
-enum-told c = search needs
+-- what `search` finds
+found : tie.Need-enum-known-c × tie.Need-enum-told
+found = search needs
 
 returns-2 : tie.Need-returns-2
 returns-2 c = λ J w. counts-told J (plan-count J _ (state-working J _ w (c .before .before .before .before .before .before .before .before .before .if1 .left) .fits) (c .before .before .before .before .before .before .before .before .plan-of .ensures)) (c .before .before .before .count-walks .ensures) (ap countedOf (sym (c .before .c .given .1)))
@@ -36,7 +34,7 @@ count-spec =
     returns
     plan-of-requires
     count-walks-requires
-    enum-known-c
-    enum-told
+    (found .0)
+    (found .1)
     returns-2
     returns-3)

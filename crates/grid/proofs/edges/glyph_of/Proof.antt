@@ -6,17 +6,12 @@ use borrow.Author.Needs.{needs}
 use Rattle.grid.proofs.edges.glyph_of.Statement.{statement}
 use Rattle.grid.proofs.edges.glyph_of.Tie as tie
 
-cast-result : tie.Need-cast-result
-cast-result c = search needs
-
-add-result : tie.Need-add-result
-add-result c = search needs
-
-cast-result-2 : tie.Need-cast-result-2
-cast-result-2 c = search needs
+-- what `search` finds
+found : tie.Need-cast-result × tie.Need-add-result × tie.Need-cast-result-2
+found = search needs
 
 returns : tie.Need-returns
 returns c = glyph-digit false _ refl
 
 pub glyph-of-spec : {M : Type 1} → statement M
-glyph-of-spec = tie.close (tie.spec cast-result add-result cast-result-2 returns)
+glyph-of-spec = tie.close (tie.spec (found .0) (found .1) (found .2) returns)

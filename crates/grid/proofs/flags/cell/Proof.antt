@@ -5,14 +5,9 @@ use borrow.Author.Needs.{needs}
 use Rattle.grid.proofs.flags.cell.Statement.{statement}
 use Rattle.grid.proofs.flags.cell.Tie as tie
 
-shared-slice-read-if1 : tie.Need-shared-slice-read-if1
-shared-slice-read-if1 c = search needs
-
-mul-t8 : tie.Need-mul-t8
-mul-t8 c = search needs
-
-shared-slice-read-t10 : tie.Need-shared-slice-read-t10
-shared-slice-read-t10 c = search needs
+-- what `search` finds
+found : tie.Need-shared-slice-read-if1 × tie.Need-mul-t8 × tie.Need-shared-slice-read-t10
+found = search needs
 
 returns : tie.Need-returns
 returns c = sym (cell-zero _ _ (c .before .if1 .taken))
@@ -22,4 +17,4 @@ returns-2 c = sym (cell-over _ _ (c .if1 .left))
 
 pub cell-spec : {M : Type 1} → statement M
 cell-spec =
-    tie.close (tie.spec shared-slice-read-if1 mul-t8 shared-slice-read-t10 returns returns-2)
+    tie.close (tie.spec (found .0) (found .1) (found .2) returns returns-2)

@@ -6,20 +6,9 @@ use borrow.Author.Needs.{needs}
 use Rattle.grid.proofs.flags.put.Statement.{statement}
 use Rattle.grid.proofs.flags.put.Tie as tie
 
-enum-known-r : tie.Need-enum-known-r
-enum-known-r c = search needs
-
-mul-val : tie.Need-mul-val
-mul-val c = search needs
-
-slice-write-val : tie.Need-slice-write-val
-slice-write-val c = search needs
-
-slice-write-ov : tie.Need-slice-write-ov
-slice-write-ov c = search needs
-
-enum-told : tie.Need-enum-told
-enum-told c = search needs
+-- what `search` finds
+found : tie.Need-enum-known-r × tie.Need-mul-val × tie.Need-slice-write-val × tie.Need-slice-write-ov × tie.Need-enum-told
+found = search needs
 
 mul-val-2 : tie.Need-mul-val-2
 mul-val-2 c = search needs
@@ -52,11 +41,11 @@ pub put-spec : {M : Type 1} → statement M
 put-spec =
     tie.close
     (tie.spec
-    enum-known-r
-    mul-val
-    slice-write-val
-    slice-write-ov
-    enum-told
+    (found .0)
+    (found .1)
+    (found .2)
+    (found .3)
+    (found .4)
     mul-val-2
     slice-write-val-2
     slice-write-ov-2

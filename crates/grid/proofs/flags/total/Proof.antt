@@ -27,11 +27,9 @@ source-requires c κs = (omega arith, c .before .before .before .before .pre .ba
 cell-requires : tie.Need-cell-requires Inv-loop μ-loop
 cell-requires c κs = (omega (arith, c .source .ensures, c .before .before .before .before .before .pre .in-val (c .before .before .loop .i) (omega arith)), omega (arith, c .source .ensures, c .before .before .before .before .before .pre .in-ov (c .before .before .loop .i) (omega arith)))
 
-enum-known-a : tie.Need-enum-known-a Inv-loop μ-loop
-enum-known-a c = search needs
-
-enum-told : tie.Need-enum-told Inv-loop μ-loop
-enum-told c = search needs
+-- what `search` finds
+found : tie.Need-enum-known-a Inv-loop μ-loop × tie.Need-enum-told Inv-loop μ-loop
+found = search needs
 
 returns : tie.Need-returns Inv-loop μ-loop
 returns c = λ g says. total-over g _ _ _ (c .before .before .before .before .before .loop .inv .2 g says) (c .before .before .before .before .loop-test .taken) _ (said (c .before .before .before .before .before .before .before .before .args .sa .now) (c .before .before .before .before .before .before .before .before .args .off .now) (c .before .before .before .before .before .before .before .before .args .val .now) (c .before .before .before .before .before .before .before .before .args .ov .now) (c .before .before .before .before .before .before .before .before .args .x) (c .before .before .before .before .before .before .before .before .args .at) g says _ (c .before .before .before .before .loop-test .taken) (c .before .before .before .source .ensures) (c .before .before .cell .ensures)) (c .enum-told .given .1)
@@ -66,8 +64,8 @@ total-spec =
     loop-holds
     source-requires
     cell-requires
-    enum-known-a
-    enum-told
+    (found .0)
+    (found .1)
     returns
     sub-if1
     returns-2

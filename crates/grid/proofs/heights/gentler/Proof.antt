@@ -5,23 +5,18 @@ use Rattle.tables.proofs.Lowering.{slope-low}
 use Rattle.grid.proofs.heights.gentler.Statement.{statement}
 use Rattle.grid.proofs.heights.gentler.Tie as tie
 
-lesser-requires : tie.Need-lesser-requires
-lesser-requires c κs = search needs
+-- what `search` finds
+found : tie.Need-lesser-requires × tie.Need-lesser-requires-2 × tie.Need-lesser-requires-3
+found = search needs
 
 returns : tie.Need-returns
 returns c = (omega arith, slope-low _ _ 1 _ (c .before .if1 .taken) (omega arith))
 
-lesser-requires-2 : tie.Need-lesser-requires-2
-lesser-requires-2 c κs = search needs
-
 returns-2 : tie.Need-returns-2
 returns-2 c = (omega arith, slope-low _ _ 2 _ (c .before .if2 .taken) (omega arith))
-
-lesser-requires-3 : tie.Need-lesser-requires-3
-lesser-requires-3 c κs = search needs
 
 returns-3 : tie.Need-returns-3
 returns-3 c = (omega arith, slope-low _ _ 3 _ (omega arith) (omega arith))
 
 pub gentler-spec : {M : Type 1} → statement M
-gentler-spec = tie.close (tie.spec lesser-requires returns lesser-requires-2 returns-2 lesser-requires-3 returns-3)
+gentler-spec = tie.close (tie.spec (found .0) returns (found .1) returns-2 (found .2) returns-3)

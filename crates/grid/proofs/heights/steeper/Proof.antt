@@ -5,26 +5,15 @@ use Rattle.tables.proofs.Lowering.{slope-high}
 use Rattle.grid.proofs.heights.steeper.Statement.{statement}
 use Rattle.grid.proofs.heights.steeper.Tie as tie
 
-greater-requires : tie.Need-greater-requires
-greater-requires c κs = search needs
+-- what `search` finds
+found : tie.Need-greater-requires × tie.Need-add-greater × tie.Need-greater-requires-2 × tie.Need-add-greater-2 × tie.Need-greater-requires-3
+found = search needs
 
 returns : tie.Need-returns
 returns c = (omega arith, omega arith, slope-high _ _ 1 _ (c .before .if1 .taken) (omega arith))
 
-add-greater : tie.Need-add-greater
-add-greater c = search needs
-
-greater-requires-2 : tie.Need-greater-requires-2
-greater-requires-2 c κs = search needs
-
 returns-2 : tie.Need-returns-2
 returns-2 c = (omega arith, omega arith, slope-high _ _ 2 _ (c .before .if2 .taken) (omega arith))
-
-add-greater-2 : tie.Need-add-greater-2
-add-greater-2 c = search needs
-
-greater-requires-3 : tie.Need-greater-requires-3
-greater-requires-3 c κs = search needs
 
 returns-3 : tie.Need-returns-3
 returns-3 c = (omega arith, omega arith, slope-high _ _ 3 _ (omega arith) (omega arith))
@@ -33,11 +22,11 @@ pub steeper-spec : {M : Type 1} → statement M
 steeper-spec =
     tie.close
     (tie.spec
-    greater-requires
+    (found .0)
     returns
-    add-greater
-    greater-requires-2
+    (found .1)
+    (found .2)
     returns-2
-    add-greater-2
-    greater-requires-3
+    (found .3)
+    (found .4)
     returns-3)

@@ -7,29 +7,15 @@ use borrow.Author.Needs.{needs}
 use Rattle.grid.proofs.known.known_of.Statement.{statement}
 use Rattle.grid.proofs.known.known_of.Tie as tie
 
-family-of-requires : tie.Need-family-of-requires
-family-of-requires c κs = search needs
-
-is-paired-requires : tie.Need-is-paired-requires
-is-paired-requires c κs = search needs
-
-shapeless-requires : tie.Need-shapeless-requires
-shapeless-requires c κs = search needs
+-- what `search` finds
+found : tie.Need-family-of-requires × tie.Need-is-paired-requires × tie.Need-shapeless-requires × tie.Need-shapeless-requires-2 × tie.Need-of-requires × tie.Need-shapeless-requires-3
+found = search needs
 
 returns : tie.Need-returns
 returns c = rw (c .shapeless .ensures) (mine-by (c .before .before .before .before .before .args .block .now) (c .before .before .before .family-of .ensures) (c .before .before .is-paired .ensures) (not-true _ (c .before .if1 .taken)))
 
-shapeless-requires-2 : tie.Need-shapeless-requires-2
-shapeless-requires-2 c κs = search needs
-
 returns-2 : tie.Need-returns-2
 returns-2 c = rw (c .shapeless2 .ensures) (mine-by (c .before .before .before .before .before .before .args .block .now) (c .before .before .before .before .family-of .ensures) (c .before .before .before .is-paired .ensures) (not-false _ (c .before .before .if1 .left)), not-true _ (c .before .if2 .taken))
-
-of-requires : tie.Need-of-requires
-of-requires c κs = search needs
-
-shapeless-requires-3 : tie.Need-shapeless-requires-3
-shapeless-requires-3 c κs = search needs
 
 returns-3 : tie.Need-returns-3
 returns-3 c = rw (c .shapeless3 .ensures) (refusing-told (c .before .before .before .before .before .before .before .before .args .block .now) (mine-by (c .before .before .before .before .before .before .before .before .args .block .now) (c .before .before .before .before .before .before .family-of .ensures) (c .before .before .before .before .before .is-paired .ensures) (not-false _ (c .before .before .before .before .if1 .left))) (not-false _ (c .before .before .before .if2 .left)) (told-of (c .before .before .before .before .before .before .before .before .args .block .now) (c .before .before .of .result) (c .before .before .of .ensures) (c .before .if3 .taken)))
@@ -44,14 +30,14 @@ pub known-of-spec : {M : Type 1} → statement M
 known-of-spec =
     tie.close
     (tie.spec
-    family-of-requires
-    is-paired-requires
-    shapeless-requires
+    (found .0)
+    (found .1)
+    (found .2)
     returns
-    shapeless-requires-2
+    (found .3)
     returns-2
-    of-requires
-    shapeless-requires-3
+    (found .4)
+    (found .5)
     returns-3
     shape-of-requires
     returns-4)

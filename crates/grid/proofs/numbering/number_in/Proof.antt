@@ -9,26 +9,15 @@ use Rattle.grid.proofs.numbering.number_in.Tie as tie
 fill-requires : tie.Need-fill-requires
 fill-requires c κs = (c .before .before .before .before .before .pre .0, c .before .before .before .before .before .pre .1)
 
-enum-told : tie.Need-enum-told
-enum-told c = search needs
-
-same-length : tie.Need-same-length
-same-length c = search needs
+-- what `search` finds
+found : tie.Need-enum-told × tie.Need-same-length × tie.Need-enum-told-2 × tie.Need-same-length-2 × tie.Need-same-length-3
+found = search needs
 
 returns : tie.Need-returns
 returns c = ranks-over false (c .before .before .before .before .before .before .before .before .before .before .args .p) _ _ _ _ (filled-over (c .before .before .before .before .fill .ensures) (c .enum-told .given .1))
 
-enum-told-2 : tie.Need-enum-told-2
-enum-told-2 c = search needs
-
 number-each-requires : tie.Need-number-each-requires
 number-each-requires c κs = (filled-readable (c .before .before .before .before .before .before .fill .ensures) (c .before .before .enum-told2 .given .1) (c .before .before .before .before .before .before .before .before .before .before .before .before .pre .0) (search needs), c .before .before .before .before .before .before .before .before .before .before .before .before .pre .2)
-
-same-length-2 : tie.Need-same-length-2
-same-length-2 c = search needs
-
-same-length-3 : tie.Need-same-length-3
-same-length-3 c = search needs
 
 returns-2 : tie.Need-returns-2
 returns-2 c = ranks-fit false (c .before .before .before .before .before .before .before .before .before .before .before .before .before .before .before .args .p) _ _ _ _ _ _ (filled-count (c .before .before .before .before .before .before .before .before .before .fill .ensures) (c .before .before .before .before .before .enum-told2 .given .1) .1) (c .before .before .number-each .ensures)
@@ -38,11 +27,11 @@ number-in-spec =
     tie.close
     (tie.spec
     fill-requires
-    enum-told
-    same-length
+    (found .0)
+    (found .1)
     returns
-    enum-told-2
+    (found .2)
     number-each-requires
-    same-length-2
-    same-length-3
+    (found .3)
+    (found .4)
     returns-2)

@@ -4,38 +4,24 @@ use borrow.Author.Needs.{needs}
 use Rattle.grid.proofs.numbering.number_small.Statement.{statement}
 use Rattle.grid.proofs.numbering.number_small.Tie as tie
 
-slice-aggregate-number-in : tie.Need-slice-aggregate-number-in
-slice-aggregate-number-in c = search needs
+-- what `search` finds
+found : tie.Need-slice-aggregate-number-in × tie.Need-same-length × tie.Need-slice-aggregate-number-in-2 × tie.Need-same-length-2 × tie.Need-slice-aggregate-number-in-3 × tie.Need-same-length-3
+found = search needs
 
 number-in-requires : tie.Need-number-in-requires
 number-in-requires c κs = (blank-at (c .before .before .before .before .before .before .pre .0) 128 (c .before .before .if1 .taken), c .before .before .before .before .before .before .pre .2, c .before .before .before .before .before .before .pre .3)
 
-same-length : tie.Need-same-length
-same-length c = search needs
-
 returns : tie.Need-returns
 returns c = search needs
-
-slice-aggregate-number-in-2 : tie.Need-slice-aggregate-number-in-2
-slice-aggregate-number-in-2 c = search needs
 
 number-in-requires-2 : tie.Need-number-in-requires-2
 number-in-requires-2 c κs = (blank-at (c .before .before .before .before .before .before .before .pre .0) 384 (c .before .before .if2 .taken), c .before .before .before .before .before .before .before .pre .2, c .before .before .before .before .before .before .before .pre .3)
 
-same-length-2 : tie.Need-same-length-2
-same-length-2 c = search needs
-
 returns-2 : tie.Need-returns-2
 returns-2 c = search needs
 
-slice-aggregate-number-in-3 : tie.Need-slice-aggregate-number-in-3
-slice-aggregate-number-in-3 c = search needs
-
 number-in-requires-3 : tie.Need-number-in-requires-3
 number-in-requires-3 c κs = (blank-at (c .before .before .before .before .before .before .before .pre .0) 1280 (c .before .before .before .before .before .before .before .pre .1), c .before .before .before .before .before .before .before .pre .2, c .before .before .before .before .before .before .before .pre .3)
-
-same-length-3 : tie.Need-same-length-3
-same-length-3 c = search needs
 
 returns-3 : tie.Need-returns-3
 returns-3 c = search needs
@@ -44,15 +30,15 @@ pub number-small-spec : {M : Type 1} → statement M
 number-small-spec =
     tie.close
     (tie.spec
-    slice-aggregate-number-in
+    (found .0)
     number-in-requires
-    same-length
+    (found .1)
     returns
-    slice-aggregate-number-in-2
+    (found .2)
     number-in-requires-2
-    same-length-2
+    (found .3)
     returns-2
-    slice-aggregate-number-in-3
+    (found .4)
     number-in-requires-3
-    same-length-3
+    (found .5)
     returns-3)

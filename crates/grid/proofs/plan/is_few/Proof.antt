@@ -4,26 +4,18 @@ use borrow.Author.Needs.{needs}
 use Rattle.grid.proofs.plan.is_few.Statement.{statement}
 use Rattle.grid.proofs.plan.is_few.Tie as tie
 
-element-copy-out-if1 : tie.Need-element-copy-out-if1
-element-copy-out-if1 c = search needs
+-- what `search` finds
+found : tie.Need-element-copy-out-if1 × tie.Need-element-copy-out-if2 × tie.Need-element-copy-out-if3 × tie.Need-element-copy-out-if4
+found = search needs
 
 returns : tie.Need-returns
 returns c = few-not _ _
 
-element-copy-out-if2 : tie.Need-element-copy-out-if2
-element-copy-out-if2 c = search needs
-
 returns-2 : tie.Need-returns-2
 returns-2 c = few-not _ _
 
-element-copy-out-if3 : tie.Need-element-copy-out-if3
-element-copy-out-if3 c = search needs
-
 returns-3 : tie.Need-returns-3
 returns-3 c = few-not _ _
-
-element-copy-out-if4 : tie.Need-element-copy-out-if4
-element-copy-out-if4 c = search needs
 
 returns-4 : tie.Need-returns-4
 returns-4 c = few-not _ _
@@ -35,12 +27,12 @@ pub is-few-spec : {M : Type 1} → statement M
 is-few-spec =
     tie.close
     (tie.spec
-    element-copy-out-if1
+    (found .0)
     returns
-    element-copy-out-if2
+    (found .1)
     returns-2
-    element-copy-out-if3
+    (found .2)
     returns-3
-    element-copy-out-if4
+    (found .3)
     returns-4
     returns-5)

@@ -20,14 +20,12 @@ mul-floor c = omega (arith, mul-le-mul (c .before .before .before .before .lowes
 mul-ceiling : tie.Need-mul-ceiling
 mul-ceiling c = omega (arith, mul-le-mul (c .before .before .highest .ensures .0 .small) (c .before .before .before .before .before .before .before .before .before .before .pre .wide))
 
-unreached-requires : tie.Need-unreached-requires
-unreached-requires c κs = search needs
+-- what `search` finds
+found : tie.Need-unreached-requires × tie.Need-unreached-requires-2
+found = search needs
 
 returns : tie.Need-returns
 returns c = unreached (c .unreached .ensures) (below _ (c .before .before .before .before .before .before .before .lowest .ensures .each) (c .before .if1 .taken))
-
-unreached-requires-2 : tie.Need-unreached-requires-2
-unreached-requires-2 c κs = search needs
 
 returns-2 : tie.Need-returns-2
 returns-2 c = unreached (c .unreached2 .ensures) (above _ (c .before .before .before .before .before .highest .ensures .0 .each) (c .before .if2 .taken))
@@ -70,9 +68,9 @@ lowered-spec =
     highest-requires
     mul-floor
     mul-ceiling
-    unreached-requires
+    (found .0)
     returns
-    unreached-requires-2
+    (found .1)
     returns-2
     seen-requires
     returns-3

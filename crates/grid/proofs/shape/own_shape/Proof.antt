@@ -18,20 +18,9 @@ Inv-loop f n up k a b sa₀ sc₀ i₀ sa sc i = (i ≤ 8) × Until (Laying a b 
 abbrev μ-loop : tie.MeasureT-loop
 μ-loop f n up k a b sa₀ sc₀ i₀ sa sc i = 8 - i
 
-wide-requires : tie.Need-wide-requires Inv-loop μ-loop
-wide-requires c κs = search needs
-
-wide-requires-2 : tie.Need-wide-requires-2 Inv-loop μ-loop
-wide-requires-2 c κs = search needs
-
-mul-up : tie.Need-mul-up Inv-loop μ-loop
-mul-up c = search needs
-
-add-up : tie.Need-add-up Inv-loop μ-loop
-add-up c = search needs
-
-wide-requires-3 : tie.Need-wide-requires-3 Inv-loop μ-loop
-wide-requires-3 c κs = search needs
+-- what `search` finds
+found : tie.Need-wide-requires Inv-loop μ-loop × tie.Need-wide-requires-2 Inv-loop μ-loop × tie.Need-mul-up Inv-loop μ-loop × tie.Need-add-up Inv-loop μ-loop × tie.Need-wide-requires-3 Inv-loop μ-loop × tie.Need-wide-requires-4 Inv-loop μ-loop × tie.Need-mul-sa Inv-loop μ-loop × tie.Need-wide-requires-5 Inv-loop μ-loop × tie.Need-mul-sc-2 Inv-loop μ-loop × tie.Need-add-i Inv-loop μ-loop × tie.Need-loop-less Inv-loop μ-loop
+found = search needs
 
 loop-holds : tie.Need-loop-holds Inv-loop μ-loop
 loop-holds c = (omega arith, until-none (laid-start _ _))
@@ -39,20 +28,11 @@ loop-holds c = (omega arith, until-none (laid-start _ _))
 array-read-wide : tie.Need-array-read-wide Inv-loop μ-loop
 array-read-wide c = omega (arith, c .before .before .before .before .before .wide3 .ensures, c .before .before .before .before .before .before .before .before .pre .few)
 
-wide-requires-4 : tie.Need-wide-requires-4 Inv-loop μ-loop
-wide-requires-4 c κs = search needs
-
-mul-sa : tie.Need-mul-sa Inv-loop μ-loop
-mul-sa c = search needs
-
 array-write-sa : tie.Need-array-write-sa Inv-loop μ-loop
 array-write-sa c = omega (arith, c .before .before .before .before .before .before .wide3 .ensures, c .before .before .before .before .before .before .before .before .before .pre .few, c .before .before .before .loop .inv .1 .so-far (omega arith) .eight)
 
 array-read-wide-2 : tie.Need-array-read-wide-2 Inv-loop μ-loop
 array-read-wide-2 c = omega (arith, c .before .before .before .before .before .before .wide3 .ensures, c .before .before .before .before .before .before .before .before .before .pre .few)
-
-wide-requires-5 : tie.Need-wide-requires-5 Inv-loop μ-loop
-wide-requires-5 c κs = search needs
 
 mul-sc : tie.Need-mul-sc Inv-loop μ-loop
 mul-sc c = omega (arith, c .before .wide4 .ensures, c .before .before .before .before .before .before .before .before .before .before .pre .a-least (c .before .before .before .before .loop .i) (omega (arith, c .before .before .before .before .before .before .before .wide3 .ensures)), c .before .before .before .before .before .before .before .before .before .before .pre .a-most (c .before .before .before .before .loop .i) (omega (arith, c .before .before .before .before .before .before .before .wide3 .ensures)))
@@ -63,17 +43,8 @@ add-sc c = omega (arith, c .before .wide4 .ensures, c .wide5 .ensures, c .before
 sub-sc : tie.Need-sub-sc Inv-loop μ-loop
 sub-sc c = omega (arith, c .before .wide4 .ensures, c .wide5 .ensures, c .before .before .before .before .before .before .before .before .before .before .pre .a-least (c .before .before .before .before .loop .i) (omega (arith, c .before .before .before .before .before .before .before .wide3 .ensures)), c .before .before .before .before .before .before .before .before .before .before .pre .a-most (c .before .before .before .before .loop .i) (omega (arith, c .before .before .before .before .before .before .before .wide3 .ensures)), c .before .before .before .before .before .before .before .before .before .before .pre .b-least (c .before .before .before .before .loop .i) (omega (arith, c .before .before .before .before .before .before .before .wide3 .ensures)), c .before .before .before .before .before .before .before .before .before .before .pre .b-most (c .before .before .before .before .loop .i) (omega (arith, c .before .before .before .before .before .before .before .wide3 .ensures)))
 
-mul-sc-2 : tie.Need-mul-sc-2 Inv-loop μ-loop
-mul-sc-2 c = search needs
-
 array-write-sc : tie.Need-array-write-sc Inv-loop μ-loop
 array-write-sc c = omega (arith, c .before .before .before .before .before .before .before .wide3 .ensures, c .before .before .before .before .before .before .before .before .before .before .pre .few, c .before .before .before .before .loop .inv .1 .so-far (omega arith) .eight-too)
-
-add-i : tie.Need-add-i Inv-loop μ-loop
-add-i c = search needs
-
-loop-less : tie.Need-loop-less Inv-loop μ-loop
-loop-less c = search needs
 
 loop-again : tie.Need-loop-again Inv-loop μ-loop
 loop-again c =
@@ -97,25 +68,25 @@ own-shape-spec =
     (tie.spec
     Inv-loop
     μ-loop
-    wide-requires
-    wide-requires-2
-    mul-up
-    add-up
-    wide-requires-3
+    (found .0)
+    (found .1)
+    (found .2)
+    (found .3)
+    (found .4)
     loop-holds
     array-read-wide
-    wide-requires-4
-    mul-sa
+    (found .5)
+    (found .6)
     array-write-sa
     array-read-wide-2
-    wide-requires-5
+    (found .7)
     mul-sc
     add-sc
     sub-sc
-    mul-sc-2
+    (found .8)
     array-write-sc
-    add-i
-    loop-less
+    (found .9)
+    (found .10)
     loop-again
     returns
     returns-2)

@@ -18,14 +18,12 @@ plan-of-requires c κs = form-of (c .if1 .left) (c .before .before .before .befo
 spell-planned-requires : tie.Need-spell-planned-requires
 spell-planned-requires c κs = (c .before .before .before .before .before .before .plan-of .ensures .planned, narrow-of (c .before .before .before .before .before .before .before .if1 .left) (c .before .before .before .before .before .before .plan-of .ensures) (c .before .before .before .before .before .before .before .before .before .before .before .pre .0), c .before .before .before .before .before .before .before .before .before .before .before .pre .1)
 
-same-length : tie.Need-same-length
-same-length c = search needs
-
-same-length-2 : tie.Need-same-length-2
-same-length-2 c = search needs
+-- what `search` finds
+found : tie.Need-same-length × tie.Need-same-length-2
+found = search needs
 
 returns-3 : tie.Need-returns-3
 returns-3 c = builds-as (c .before .before .before .before .before .before .before .before .before .before .before .before .if1 .left) (c .before .before .before .before .before .before .before .before .before .before .before .plan-of .ensures) (c .before .before .before .before .before .before .before .before .before .before .before .before .before .before .before .before .args .numbers .now) _ _ _ _ _ (c .before .before .before .before .spell-planned .ensures)
 
 pub spell-edges-spec : {M : Type 1} → statement M
-spell-edges-spec = tie.close (tie.spec returns returns-2 plan-of-requires spell-planned-requires same-length same-length-2 returns-3)
+spell-edges-spec = tie.close (tie.spec returns returns-2 plan-of-requires spell-planned-requires (found .0) (found .1) returns-3)

@@ -11,24 +11,13 @@ use Rattle.grid.proofs.spelling.spell_in.Tie as tie
 fill-requires : tie.Need-fill-requires
 fill-requires c κs = (c .before .before .before .before .before .pre .0, c .before .before .before .before .before .pre .1)
 
-enum-known-c : tie.Need-enum-known-c
-enum-known-c c = search needs
-
-enum-told : tie.Need-enum-told
-enum-told c = search needs
-
-same-length : tie.Need-same-length
-same-length c = search needs
+-- what `search` finds
+found : tie.Need-enum-known-c × tie.Need-enum-told × tie.Need-same-length × tie.Need-all-below-requires × tie.Need-same-length-2 × tie.Need-same-length-3 × tie.Need-same-length-4 × tie.Need-same-length-5
+found = search needs
 
 returns : tie.Need-returns
 returns c =
     for-over false (c .before .before .before .before .before .before .before .before .before .before .args .p) _ _ _ _ _ (filled-over (c .before .before .before .before .fill .ensures) (c .enum-told .given .1))
-
-all-below-requires : tie.Need-all-below-requires
-all-below-requires c κs = search needs
-
-same-length-2 : tie.Need-same-length-2
-same-length-2 c = search needs
 
 returns-2 : tie.Need-returns-2
 returns-2 c =
@@ -37,15 +26,6 @@ returns-2 c =
 spell-all-requires : tie.Need-spell-all-requires
 spell-all-requires c κs =
     (filled-readable (c .before .before .before .before .before .before .before .before .before .before .fill .ensures) (c .before .before .before .before .before .before .c .given .1) (c .before .before .before .before .before .before .before .before .before .before .before .before .before .before .before .before .pre .0) (search needs), below-told (c .before .before .before .before .before .before .before .before .before .before .before .before .before .before .before .before .args .numbers .now) _ _ _ (filled-count (c .before .before .before .before .before .before .before .before .before .before .fill .ensures) (c .before .before .before .before .before .before .c .given .1) .0) (c .before .before .before .before .all-below .ensures) ∙ not-false _ (c .before .before .before .if1 .left), c .before .before .before .before .before .before .before .before .before .before .before .before .before .before .before .before .pre .2)
-
-same-length-3 : tie.Need-same-length-3
-same-length-3 c = search needs
-
-same-length-4 : tie.Need-same-length-4
-same-length-4 c = search needs
-
-same-length-5 : tie.Need-same-length-5
-same-length-5 c = search needs
 
 returns-3 : tie.Need-returns-3
 returns-3 c =
@@ -56,15 +36,15 @@ spell-in-spec =
     tie.close
     (tie.spec
     fill-requires
-    enum-known-c
-    enum-told
-    same-length
+    (found .0)
+    (found .1)
+    (found .2)
     returns
-    all-below-requires
-    same-length-2
+    (found .3)
+    (found .4)
     returns-2
     spell-all-requires
-    same-length-3
-    same-length-4
-    same-length-5
+    (found .5)
+    (found .6)
+    (found .7)
     returns-3)

@@ -19,8 +19,9 @@ abbrev μ-loop : tie.MeasureT-loop
 loop-holds : tie.Need-loop-holds Inv-loop μ-loop
 loop-holds c = (c .before .pre .0 .start, omega (arith, c .before .pre .0 .end), refl, refl, c .before .pre .0 .ready, resume (c .before .args .val .now) (c .before .pre .0 .table) (λ j. c .slice-known .given j .fits))
 
-slice-aggregate-turn : tie.Need-slice-aggregate-turn Inv-loop μ-loop
-slice-aggregate-turn c = search needs
+-- what `search` finds
+found : tie.Need-slice-aggregate-turn Inv-loop μ-loop × tie.Need-slice-aggregate-cell Inv-loop μ-loop × tie.Need-same-length Inv-loop μ-loop
+found = search needs
 
 turn-requires : tie.Need-turn-requires Inv-loop μ-loop
 turn-requires c κs = (record { ready = c .before .before .before .loop .inv .4; room = omega (arith, c .before .before .before .loop .inv .4 .sizes .cells); table = c .before .before .before .loop .inv .5; start = c .before .before .before .loop .inv .0; end = c .before .before .loop-test .taken }, c .before .before .before .before .before .pre .1)
@@ -33,9 +34,6 @@ loop-less c = omega arith
 
 loop-again : tie.Need-loop-again Inv-loop μ-loop
 loop-again c = (omega arith, omega arith, omega arith, omega arith, ready-len (c .before .before .before .before .before .before .before .loop .inv .4) (omega arith), c .before .before .before .turn .ensures)
-
-slice-aggregate-cell : tie.Need-slice-aggregate-cell Inv-loop μ-loop
-slice-aggregate-cell c = search needs
 
 add-cell : tie.Need-add-cell Inv-loop μ-loop
 add-cell c = record { fits = end-placed (c .before .before .before .loop .inv .4 .sizes) .next }
@@ -58,9 +56,6 @@ add-cell-5 c = record { fits = end-placed (c .before .before .before .before .be
 cell-requires : tie.Need-cell-requires Inv-loop μ-loop
 cell-requires c κs = let q = end-cells (c .before .before .before .before .before .before .loop .inv .4) in let r = end-room (c .before .before .before .before .before .before .loop .inv .4) in (omega arith, omega arith)
 
-same-length : tie.Need-same-length Inv-loop μ-loop
-same-length c = search needs
-
 returns : tie.Need-returns Inv-loop μ-loop
 returns c = flagged-filled (c .before .before .before .before .before .before .before .loop .val) (c .before .before .before .before .before .before .before .loop .ov) (c .before .before .before .before .before .before .before .loop .inv .5) (omega arith) (c .cell .ensures) (omega arith)
 
@@ -71,12 +66,12 @@ rest-spec =
     Inv-loop
     μ-loop
     loop-holds
-    slice-aggregate-turn
+    (found .0)
     turn-requires
     add-x
     loop-less
     loop-again
-    slice-aggregate-cell
+    (found .1)
     add-cell
     add-cell-2
     add-cell-3
@@ -84,5 +79,5 @@ rest-spec =
     add-cell-4
     add-cell-5
     cell-requires
-    same-length
+    (found .2)
     returns)
