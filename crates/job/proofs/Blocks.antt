@@ -4,15 +4,15 @@
 --   used-next, used-end                    the used pairs from a place on
 --   signed-is, signed-one                  a byte as a signed number, and raised
 --   between-is, between-zero, eq-height    the tests of signed numbers on raised ones
---   small-more, small-not, small-end       one pair more of `small`; small-range: each pair then
---   in-found, in-other-a, in-other-b, in-end    one pair more of `isIn`
+--   small-next, small-end                  one pair more of `small`; small-range: each pair then
+--   in-more, in-end                        one pair more of `isIn`
 --   twins-next, twins-end                  one pair more of `twins`
 --   rest, zeros-past                       the end of a block; no-family: an empty one
 --   formed-is, lettered-is, directed-is, sized-is    the tests of form and size on raised numbers
 use Prim.Native.Nat.{ℕ, zero, suc, _+_, _-_, _*_, _%_, _≤_, _<_}
 use mathlib.Core.Path.{_≡_, refl, ap, ap₂, sym, _∙_, subst}
 use mathlib.Core.List.{List, [], _∷_}
-use mathlib.Core.Bool.{Bool, true, false, not, _&&_, _||_, and-false}
+use mathlib.Core.Bool.{Bool, true, false, not, _&&_, _||_}
 use native.Mathlib.Decide.{decLt, ℕ-discrete}
 use native.Mathlib.Numerals.{add-one}
 use native.Mathlib.Omega.{arith}
@@ -149,7 +149,8 @@ and-four true false c d e = refl
 and-four false b c d e = refl
 
 module _ (b : List ℕ) (k : ℕ) (p : Pairs b k) where
-  small-next : (i : ℕ) → i < k → getD b (5 + 2 * i) 0 < 256 → small (drop i (used b)) ≡ (inRange (getD b (4 + 2 * i) 0) (raised (getD b (5 + 2 * i) 0)) && small (drop (i + 1) (used b)))
+  pub small-next : (i : ℕ) → i < k → getD b (5 + 2 * i) 0 < 256
+      → small (drop i (used b)) ≡ (inRange (getD b (4 + 2 * i) 0) (raised (getD b (5 + 2 * i) 0)) && small (drop (i + 1) (used b)))
   unfolding small
   small-next i l h =
       let x : ℕ = getD b (4 + 2 * i) 0 in
@@ -157,12 +158,6 @@ module _ (b : List ℕ) (k : ℕ) (p : Pairs b k) where
       ap small (used-next b k p i l)
       ∙ ap (λ (t : Bool). leb 1 x && (leb x 3 && (t && small (drop (i + 1) (used b))))) (between-is (signed y) (raised y) 2 3 (omega arith) (signed-is y h))
       ∙ and-four (leb 1 x) (leb x 3) (leb 125 (raised y)) (leb (raised y) 131) (small (drop (i + 1) (used b)))
-
-  pub small-more : (i : ℕ) → i < k → getD b (5 + 2 * i) 0 < 256 → inRange (getD b (4 + 2 * i) 0) (raised (getD b (5 + 2 * i) 0)) ≡ true → small (drop i (used b)) ≡ small (drop (i + 1) (used b))
-  small-more i l h e = small-next i l h ∙ ap (λ (t : Bool). t && small (drop (i + 1) (used b))) e
-
-  pub small-not : (i : ℕ) → i < k → getD b (5 + 2 * i) 0 < 256 → inRange (getD b (4 + 2 * i) 0) (raised (getD b (5 + 2 * i) 0)) ≡ false → small (drop i (used b)) ≡ false
-  small-not i l h e = small-next i l h ∙ ap (λ (t : Bool). t && small (drop (i + 1) (used b))) e
 
   pub small-end : (i : ℕ) → i ≡ k → small (drop i (used b)) ≡ true
   unfolding small
@@ -186,26 +181,13 @@ module _ (b : List ℕ) (k : ℕ) (p : Pairs b k) where
   unfolding isIn
   in-next q j l = ap (isIn q) (used-next b k p j l)
 
-  module _ (i : ℕ) (j : ℕ) (l : j < k) (h : getD b (5 + 2 * i) 0 < 256) (g : getD b (5 + 2 * j) 0 < 256) where
-    pub in-found : getD b (4 + 2 * j) 0 ≡ getD b (4 + 2 * i) 0 → getD b (5 + 2 * j) 0 ≡ getD b (5 + 2 * i) 0 → isIn (pairOf b i) (drop j (used b)) ≡ true
-    in-found e f =
-        in-next (pairOf b i) j l
-        ∙ ap₂ (λ (s t : Bool). (s && t) || isIn (pairOf b i) (drop (j + 1) (used b)))
-        (eq-eqb (getD b (4 + 2 * i) 0) (getD b (4 + 2 * j) 0) (sym e))
-        (signed-one (getD b (5 + 2 * i) 0) (getD b (5 + 2 * j) 0) h g ∙ eq-eqb (getD b (5 + 2 * i) 0) (getD b (5 + 2 * j) 0) (sym f))
-
-    pub in-other-a : (getD b (4 + 2 * j) 0 ≡ getD b (4 + 2 * i) 0 → ⊥) → isIn (pairOf b i) (drop j (used b)) ≡ isIn (pairOf b i) (drop (j + 1) (used b))
-    in-other-a e =
-        in-next (pairOf b i) j l
-        ∙ ap (λ (s : Bool). (s && eqℤ (signed (getD b (5 + 2 * i) 0)) (signed (getD b (5 + 2 * j) 0))) || isIn (pairOf b i) (drop (j + 1) (used b)))
-        (ne-eqb (getD b (4 + 2 * i) 0) (getD b (4 + 2 * j) 0) (λ q. e (sym q)))
-
-    pub in-other-b : (getD b (5 + 2 * j) 0 ≡ getD b (5 + 2 * i) 0 → ⊥) → isIn (pairOf b i) (drop j (used b)) ≡ isIn (pairOf b i) (drop (j + 1) (used b))
-    in-other-b e =
-        in-next (pairOf b i) j l
-        ∙ ap (λ (t : Bool). (eqb (getD b (4 + 2 * i) 0) (getD b (4 + 2 * j) 0) && t) || isIn (pairOf b i) (drop (j + 1) (used b)))
-        (signed-one (getD b (5 + 2 * i) 0) (getD b (5 + 2 * j) 0) h g ∙ ne-eqb (getD b (5 + 2 * i) 0) (getD b (5 + 2 * j) 0) (λ q. e (sym q)))
-        ∙ ap (λ (t : Bool). t || isIn (pairOf b i) (drop (j + 1) (used b))) (and-false (eqb (getD b (4 + 2 * i) 0) (getD b (4 + 2 * j) 0)))
+  pub in-more : (i j : ℕ) → j < k → getD b (5 + 2 * i) 0 < 256 → getD b (5 + 2 * j) 0 < 256
+      → isIn (pairOf b i) (drop j (used b))
+      ≡ ((eqb (getD b (4 + 2 * i) 0) (getD b (4 + 2 * j) 0) && eqb (getD b (5 + 2 * i) 0) (getD b (5 + 2 * j) 0)) || isIn (pairOf b i) (drop (j + 1) (used b)))
+  in-more i j l h g =
+      in-next (pairOf b i) j l
+      ∙ ap (λ (t : Bool). (eqb (getD b (4 + 2 * i) 0) (getD b (4 + 2 * j) 0) && t) || isIn (pairOf b i) (drop (j + 1) (used b)))
+      (signed-one (getD b (5 + 2 * i) 0) (getD b (5 + 2 * j) 0) h g)
 
   pub in-end : (q : Pair) (j : ℕ) → j ≡ k → isIn q (drop j (used b)) ≡ false
   unfolding isIn

@@ -15,20 +15,13 @@ Inv-loop s i₀ i = (i ≤ length s) × (zeros s ≡ zeros (drop i s))
 abbrev μ-loop : tie.MeasureT-loop
 μ-loop s i₀ i = length s - i
 
-loop-holds : tie.Need-loop-holds Inv-loop μ-loop
-loop-holds c = search needs
-
-shared-slice-read-if1 : tie.Need-shared-slice-read-if1 Inv-loop μ-loop
-shared-slice-read-if1 c = search needs
+-- what `search` finds
+found : tie.Need-loop-holds Inv-loop μ-loop × tie.Need-shared-slice-read-if1 Inv-loop μ-loop × tie.Need-add-i Inv-loop μ-loop ×
+    tie.Need-loop-less Inv-loop μ-loop
+found = search needs
 
 returns : tie.Need-returns Inv-loop μ-loop
 returns c = sym (c .before .before .before .loop .inv .1 ∙ zeros-not _ _ (c .before .before .loop-test .taken) (c .if1 .taken))
-
-add-i : tie.Need-add-i Inv-loop μ-loop
-add-i c = search needs
-
-loop-less : tie.Need-loop-less Inv-loop μ-loop
-loop-less c = search needs
 
 loop-again : tie.Need-loop-again Inv-loop μ-loop
 loop-again c = (search needs, c .before .before .before .loop .inv .1 ∙ zeros-more _ _ (c .before .before .loop-test .taken) (c .if1 .left))
@@ -38,14 +31,4 @@ returns-2 c = sym (c .before .loop .inv .1 ∙ zeros-end (c .before .before .arg
 
 pub all-zero-spec : {M : Type 1} → statement M
 all-zero-spec =
-    tie.close
-    (tie.spec
-    Inv-loop
-    μ-loop
-    loop-holds
-    shared-slice-read-if1
-    returns
-    add-i
-    loop-less
-    loop-again
-    returns-2)
+    tie.close (tie.spec Inv-loop μ-loop (found .0) (found .1) returns (found .2) (found .3) loop-again returns-2)

@@ -15,20 +15,13 @@ Inv-loop block k i₀ i = (i ≤ k) × (twins (used block) ≡ twins (drop i (us
 abbrev μ-loop : tie.MeasureT-loop
 μ-loop block k i₀ i = k - i
 
-loop-holds : tie.Need-loop-holds Inv-loop μ-loop
-loop-holds c = search needs
-
-is-in-requires : tie.Need-is-in-requires Inv-loop μ-loop
-is-in-requires c κs = search needs
+-- what `search` finds
+found : tie.Need-loop-holds Inv-loop μ-loop × tie.Need-is-in-requires Inv-loop μ-loop × tie.Need-add-i Inv-loop μ-loop ×
+    tie.Need-loop-less Inv-loop μ-loop
+found = search needs
 
 returns : tie.Need-returns Inv-loop μ-loop
 returns c = sym (c .before .before .before .loop .inv .1 ∙ twins-next _ _ (c .before .before .before .before .before .pre) (c .before .before .before .loop .i) _ (c .before .before .loop-test .taken) (sym (c .before .is-in .ensures) ∙ c .if1 .taken))
-
-add-i : tie.Need-add-i Inv-loop μ-loop
-add-i c = search needs
-
-loop-less : tie.Need-loop-less Inv-loop μ-loop
-loop-less c = search needs
 
 loop-again : tie.Need-loop-again Inv-loop μ-loop
 loop-again c = (omega arith, c .before .before .before .loop .inv .1 ∙ twins-next _ _ (c .before .before .before .before .before .pre) (c .before .before .before .loop .i) _ (c .before .before .loop-test .taken) (sym (c .before .is-in .ensures) ∙ c .if1 .left))
@@ -38,14 +31,4 @@ returns-2 c = sym (c .before .loop .inv .1 ∙ twins-end _ _ (c .before .before 
 
 pub has-twins-spec : {M : Type 1} → statement M
 has-twins-spec =
-    tie.close
-    (tie.spec
-    Inv-loop
-    μ-loop
-    loop-holds
-    is-in-requires
-    returns
-    add-i
-    loop-less
-    loop-again
-    returns-2)
+    tie.close (tie.spec Inv-loop μ-loop (found .0) (found .1) returns (found .2) (found .3) loop-again returns-2)

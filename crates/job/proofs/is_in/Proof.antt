@@ -1,12 +1,15 @@
 -- `job::is_in` meets its contract: the pairs that are passed are others, so pair i is among all exactly if it is among the rest. Assumes nothing.
 use mathlib.Core.Path.{_≡_, refl, sym, _∙_}
 use mathlib.Core.Logic.{⊎-elim}
+use mathlib.Core.Bool.{_&&_, _||_, and-false}
 use Prim.Native.Nat.{_≤_, _-_, _*_, _+_}
 use native.Mathlib.Omega.{arith}
-use lib.ListN.{drop}
+use lib.Dec.{eqb}
+use lib.ListN.{drop, getD}
+use borrow.Author.Tests.{eq-eqb, ne-eqb}
 use Rattle.rules.specs.Blocks.{isIn, used}
 use Rattle.job.specs.Made.{pairOf}
-use Rattle.job.proofs.Blocks.{in-found, in-other-a, in-other-b, in-end}
+use Rattle.job.proofs.Blocks.{in-more, in-end}
 use borrow.Author.Needs.{needs}
 use Rattle.job.proofs.is_in.Statement.{statement}
 use Rattle.job.proofs.is_in.Tie as tie
@@ -17,85 +20,44 @@ Inv-loop block k i a b j₀ j = (i + 1 ≤ j) × (j ≤ k) × (isIn (pairOf bloc
 abbrev μ-loop : tie.MeasureT-loop
 μ-loop block k i a b j₀ j = k - j
 
-mul-a : tie.Need-mul-a Inv-loop μ-loop
-mul-a c = search needs
+-- what `search` finds
+found : tie.Need-mul-a Inv-loop μ-loop × tie.Need-add-a Inv-loop μ-loop × tie.Need-shared-slice-read-a Inv-loop μ-loop ×
+    tie.Need-mul-b Inv-loop μ-loop × tie.Need-add-b Inv-loop μ-loop × tie.Need-shared-slice-read-b Inv-loop μ-loop × tie.Need-add-j Inv-loop μ-loop ×
+    tie.Need-mul-if1 Inv-loop μ-loop × tie.Need-add-if1 Inv-loop μ-loop × tie.Need-shared-slice-read-if1 Inv-loop μ-loop ×
+    tie.Need-mul-if2 Inv-loop μ-loop × tie.Need-add-if2 Inv-loop μ-loop × tie.Need-shared-slice-read-if2 Inv-loop μ-loop ×
+    tie.Need-add-j-2 Inv-loop μ-loop × tie.Need-loop-less Inv-loop μ-loop
+found = search needs
 
-add-a : tie.Need-add-a Inv-loop μ-loop
-add-a c = search needs
-
-shared-slice-read-a : tie.Need-shared-slice-read-a Inv-loop μ-loop
-shared-slice-read-a c = search needs
-
-mul-b : tie.Need-mul-b Inv-loop μ-loop
-mul-b c = search needs
-
-add-b : tie.Need-add-b Inv-loop μ-loop
-add-b c = search needs
-
-shared-slice-read-b : tie.Need-shared-slice-read-b Inv-loop μ-loop
-shared-slice-read-b c = search needs
-
-add-j : tie.Need-add-j Inv-loop μ-loop
-add-j c = search needs
+-- pair i beside pair j
+next : (c : tie.In-loop Inv-loop μ-loop) →
+    let block = c .before .before .before .before .args .block .now in
+    let i = c .before .before .before .before .args .i in
+    let j = c .before .loop .j in
+    isIn (pairOf block i) (drop (i + 1) (used block))
+    ≡ ((eqb (getD block (4 + 2 * i) 0) (getD block (4 + 2 * j) 0) && eqb (getD block (5 + 2 * i) 0) (getD block (5 + 2 * j) 0)) || isIn (pairOf block i) (drop (j + 1) (used block)))
+next c =
+    let start = c .before .before .before .before in
+    let bytes = c .before .before .before .shared-slice-known .given in
+    let j = c .before .loop .j in
+    c .before .loop .inv .2 ∙ in-more _ _ (start .pre .0) (start .args .i) j (c .loop-test .taken) (omega (arith, bytes (5 + 2 * start .args .i))) (omega (arith, bytes (5 + 2 * j)))
 
 loop-holds : tie.Need-loop-holds Inv-loop μ-loop
 loop-holds c = (omega arith, omega arith, refl)
 
-mul-if1 : tie.Need-mul-if1 Inv-loop μ-loop
-mul-if1 c = search needs
-
-add-if1 : tie.Need-add-if1 Inv-loop μ-loop
-add-if1 c = search needs
-
-shared-slice-read-if1 : tie.Need-shared-slice-read-if1 Inv-loop μ-loop
-shared-slice-read-if1 c = search needs
-
-mul-if2 : tie.Need-mul-if2 Inv-loop μ-loop
-mul-if2 c = search needs
-
-add-if2 : tie.Need-add-if2 Inv-loop μ-loop
-add-if2 c = search needs
-
-shared-slice-read-if2 : tie.Need-shared-slice-read-if2 Inv-loop μ-loop
-shared-slice-read-if2 c = search needs
-
 returns : tie.Need-returns Inv-loop μ-loop
-returns c = sym (c .before .before .before .before .before .loop .inv .2 ∙ in-found _ _ (c .before .before .before .before .before .before .before .before .pre .0) _ (c .before .before .before .before .before .loop .j) (c .before .before .before .before .loop-test .taken) (omega (arith, c .before .before .before .before .before .before .before .shared-slice-known .given (5 + 2 * c .before .before .before .before .before .before .before .before .args .i))) (omega (arith, c .before .before .before .before .before .before .before .shared-slice-known .given (5 + 2 * c .before .before .before .before .before .loop .j))) (c .before .before .if1 .taken) (c .if2 .taken))
-
-add-j-2 : tie.Need-add-j-2 Inv-loop μ-loop
-add-j-2 c = search needs
-
-loop-less : tie.Need-loop-less Inv-loop μ-loop
-loop-less c = search needs
+returns c = sym (next (c .before .before .before .before) ∙ simp (eq-eqb _ _ (sym (c .before .before .if1 .taken)), eq-eqb _ _ (sym (c .if2 .taken))))
 
 loop-again : tie.Need-loop-again Inv-loop μ-loop
-loop-again c = (omega arith, omega arith, c .before .before .before .loop .inv .2 ∙ ⊎-elim (λ w. in-other-b _ _ (c .before .before .before .before .before .before .pre .0) _ (c .before .before .before .loop .j) (c .before .before .loop-test .taken) (omega (arith, c .before .before .before .before .before .shared-slice-known .given (5 + 2 * c .before .before .before .before .before .before .args .i))) (omega (arith, c .before .before .before .before .before .shared-slice-known .given (5 + 2 * c .before .before .before .loop .j))) (w .2 .left)) (λ w. in-other-a _ _ (c .before .before .before .before .before .before .pre .0) _ (c .before .before .before .loop .j) (c .before .before .loop-test .taken) (omega (arith, c .before .before .before .before .before .shared-slice-known .given (5 + 2 * c .before .before .before .before .before .before .args .i))) (omega (arith, c .before .before .before .before .before .shared-slice-known .given (5 + 2 * c .before .before .before .loop .j))) (w .left)) (c .if1 .came))
+loop-again c = (
+  omega arith,
+  omega arith,
+  next (c .before .before) ∙ ⊎-elim (λ w. simp (ne-eqb _ _ (λ q. w .2 .left (sym q)), and-false)) (λ w. simp (ne-eqb _ _ (λ q. w .left (sym q)))) (c .if1 .came),
+)
 
 returns-2 : tie.Need-returns-2 Inv-loop μ-loop
 returns-2 c = sym (c .before .loop .inv .2 ∙ in-end _ _ (c .before .before .before .before .pre .0) _ (c .before .loop .j) (omega arith))
 
 pub is-in-spec : {M : Type 1} → statement M
 is-in-spec =
-    tie.close
-    (tie.spec
-    Inv-loop
-    μ-loop
-    mul-a
-    add-a
-    shared-slice-read-a
-    mul-b
-    add-b
-    shared-slice-read-b
-    add-j
-    loop-holds
-    mul-if1
-    add-if1
-    shared-slice-read-if1
-    mul-if2
-    add-if2
-    shared-slice-read-if2
-    returns
-    add-j-2
-    loop-less
-    loop-again
-    returns-2)
+    tie.close (tie.spec Inv-loop μ-loop (found .0) (found .1) (found .2) (found .3) (found .4) (found .5) (found .6) loop-holds (found .7) (found .8)
+    (found .9) (found .10) (found .11) (found .12) returns (found .13) (found .14) loop-again returns-2)

@@ -4,92 +4,22 @@ use borrow.Author.Needs.{needs}
 use Rattle.job.proofs.Job.held.Statement.{statement}
 use Rattle.job.proofs.Job.held.Tie as tie
 
-shared-slice-read-t5 : tie.Need-shared-slice-read-t5
-shared-slice-read-t5 c = search needs
+-- every byte that is read is among the 20: those of a, those of b, and the others
+read-a : tie.Need-shared-slice-read-t5 × tie.Need-shared-slice-read-raise × tie.Need-shared-slice-read-t9 × tie.Need-shared-slice-read-raise-2 ×
+    tie.Need-shared-slice-read-t13 × tie.Need-shared-slice-read-raise-3 × tie.Need-shared-slice-read-t17 × tie.Need-shared-slice-read-raise-4
+read-a = search needs
 
-shared-slice-read-raise : tie.Need-shared-slice-read-raise
-shared-slice-read-raise c = search needs
+read-b : tie.Need-shared-slice-read-raise-5 × tie.Need-shared-slice-read-raise-6 × tie.Need-shared-slice-read-raise-7 ×
+    tie.Need-shared-slice-read-raise-8 × tie.Need-shared-slice-read-raise-9 × tie.Need-shared-slice-read-raise-10 ×
+    tie.Need-shared-slice-read-raise-11 × tie.Need-shared-slice-read-raise-12
+read-b = (λ c. search needs, λ c. search needs, λ c. search needs, λ c. search needs, λ c. search needs, λ c. search needs, λ c. search needs, λ c. search needs)
 
-shared-slice-read-t9 : tie.Need-shared-slice-read-t9
-shared-slice-read-t9 c = search needs
+read : tie.Need-shared-slice-read-t5-2 × tie.Need-shared-slice-read-t35 × tie.Need-shared-slice-read-raise-13 × tie.Need-shared-slice-read-t30
+read = (λ c. search needs, λ c. search needs, λ c. search needs, λ c. search needs)
 
-shared-slice-read-raise-2 : tie.Need-shared-slice-read-raise-2
-shared-slice-read-raise-2 c = search needs
-
-shared-slice-read-t13 : tie.Need-shared-slice-read-t13
-shared-slice-read-t13 c = search needs
-
-shared-slice-read-raise-3 : tie.Need-shared-slice-read-raise-3
-shared-slice-read-raise-3 c = search needs
-
-shared-slice-read-t17 : tie.Need-shared-slice-read-t17
-shared-slice-read-t17 c = search needs
-
-shared-slice-read-raise-4 : tie.Need-shared-slice-read-raise-4
-shared-slice-read-raise-4 c = search needs
-
-shared-slice-read-raise-5 : tie.Need-shared-slice-read-raise-5
-shared-slice-read-raise-5 c = search needs
-
-raise-requires : tie.Need-raise-requires
-raise-requires c κs = search needs
-
-shared-slice-read-raise-6 : tie.Need-shared-slice-read-raise-6
-shared-slice-read-raise-6 c = search needs
-
-raise-requires-2 : tie.Need-raise-requires-2
-raise-requires-2 c κs = search needs
-
-shared-slice-read-raise-7 : tie.Need-shared-slice-read-raise-7
-shared-slice-read-raise-7 c = search needs
-
-raise-requires-3 : tie.Need-raise-requires-3
-raise-requires-3 c κs = search needs
-
-shared-slice-read-raise-8 : tie.Need-shared-slice-read-raise-8
-shared-slice-read-raise-8 c = search needs
-
-raise-requires-4 : tie.Need-raise-requires-4
-raise-requires-4 c κs = search needs
-
-shared-slice-read-raise-9 : tie.Need-shared-slice-read-raise-9
-shared-slice-read-raise-9 c = search needs
-
-raise-requires-5 : tie.Need-raise-requires-5
-raise-requires-5 c κs = search needs
-
-shared-slice-read-raise-10 : tie.Need-shared-slice-read-raise-10
-shared-slice-read-raise-10 c = search needs
-
-raise-requires-6 : tie.Need-raise-requires-6
-raise-requires-6 c κs = search needs
-
-shared-slice-read-raise-11 : tie.Need-shared-slice-read-raise-11
-shared-slice-read-raise-11 c = search needs
-
-raise-requires-7 : tie.Need-raise-requires-7
-raise-requires-7 c κs = search needs
-
-shared-slice-read-raise-12 : tie.Need-shared-slice-read-raise-12
-shared-slice-read-raise-12 c = search needs
-
-raise-requires-8 : tie.Need-raise-requires-8
-raise-requires-8 c κs = search needs
-
-shared-slice-read-t5-2 : tie.Need-shared-slice-read-t5-2
-shared-slice-read-t5-2 c = search needs
-
-shared-slice-read-t35 : tie.Need-shared-slice-read-t35
-shared-slice-read-t35 c = search needs
-
-shared-slice-read-raise-13 : tie.Need-shared-slice-read-raise-13
-shared-slice-read-raise-13 c = search needs
-
-raise-requires-9 : tie.Need-raise-requires-9
-raise-requires-9 c κs = search needs
-
-shared-slice-read-t30 : tie.Need-shared-slice-read-t30
-shared-slice-read-t30 c = search needs
+raises : tie.Need-raise-requires × tie.Need-raise-requires-2 × tie.Need-raise-requires-3 × tie.Need-raise-requires-4 × tie.Need-raise-requires-5 ×
+    tie.Need-raise-requires-6 × tie.Need-raise-requires-7 × tie.Need-raise-requires-8 × tie.Need-raise-requires-9
+raises = search needs
 
 returns : tie.Need-returns
 unfolding heldBy
@@ -97,35 +27,6 @@ returns c = simp (c .before .before .before .before .before .before .before .bef
 
 pub held-spec : {M : Type 1} → statement M
 held-spec =
-    tie.close
-    (tie.spec
-    shared-slice-read-t5
-    shared-slice-read-raise
-    shared-slice-read-t9
-    shared-slice-read-raise-2
-    shared-slice-read-t13
-    shared-slice-read-raise-3
-    shared-slice-read-t17
-    shared-slice-read-raise-4
-    shared-slice-read-raise-5
-    raise-requires
-    shared-slice-read-raise-6
-    raise-requires-2
-    shared-slice-read-raise-7
-    raise-requires-3
-    shared-slice-read-raise-8
-    raise-requires-4
-    shared-slice-read-raise-9
-    raise-requires-5
-    shared-slice-read-raise-10
-    raise-requires-6
-    shared-slice-read-raise-11
-    raise-requires-7
-    shared-slice-read-raise-12
-    raise-requires-8
-    shared-slice-read-t5-2
-    shared-slice-read-t35
-    shared-slice-read-raise-13
-    raise-requires-9
-    shared-slice-read-t30
-    returns)
+    tie.close (tie.spec (read-a .0) (read-a .1) (read-a .2) (read-a .3) (read-a .4) (read-a .5) (read-a .6) (read-a .7) (read-b .0) (raises .0)
+    (read-b .1) (raises .1) (read-b .2) (raises .2) (read-b .3) (raises .3) (read-b .4) (raises .4) (read-b .5) (raises .5) (read-b .6) (raises .6)
+    (read-b .7) (raises .7) (read .0) (read .1) (read .2) (raises .8) (read .3) returns)
