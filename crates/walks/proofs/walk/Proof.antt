@@ -6,8 +6,9 @@ use Rattle.walks.proofs.Checking.{walk-refused, walk-told, stops-said}
 use Rattle.walks.proofs.walk.Statement.{statement}
 use Rattle.walks.proofs.walk.Tie as tie
 
-of-requires : tie.Need-of-requires
-of-requires c κs = search needs
+-- what `search` finds
+found : tie.Need-of-requires × tie.Need-enum-told × tie.Need-enum-known-place
+found = search needs
 
 returns : tie.Need-returns
 returns c =
@@ -21,12 +22,6 @@ walk-one-requires : tie.Need-walk-one-requires
 walk-one-requires c κs =
     let k = kept-of (c .before .before .before .before .before .args .block .now) (c .before .before .of .result) (λ i. c .before .before .before .before .shared-slice-known .given i .fits) (c .before .before .of .ensures) (c .before .if1 .left) in record { job = k .job; paces = held-paced (c .paces-of .ensures) (k .stands) }
 
-enum-told : tie.Need-enum-told
-enum-told c = search needs
-
-enum-known-place : tie.Need-enum-known-place
-enum-known-place c = search needs
-
 returns-2 : tie.Need-returns-2
 returns-2 c =
     let k = kept-of (c .before .before .before .before .before .before .before .before .args .block .now) (c .before .before .before .before .before .of .result) (λ i. c .before .before .before .before .before .before .before .shared-slice-known .given i .fits) (c .before .before .before .before .before .of .ensures) (c .before .before .before .before .if1 .left) in walk-told _ _ (k .answer) (stops-said (c .before .before .before .paces-of .result) (k .job) _ (c .before .before .walk-one .result) (held-paced (c .before .before .before .paces-of .ensures) (k .stands)) (c .before .before .walk-one .ensures) (c .enum-told .given .1))
@@ -37,13 +32,4 @@ returns-3 c =
 
 pub walk-spec : {M : Type 1} → statement M
 walk-spec =
-    tie.close
-    (tie.spec
-    of-requires
-    returns
-    paces-of-requires
-    walk-one-requires
-    enum-told
-    enum-known-place
-    returns-2
-    returns-3)
+    tie.close (tie.spec (found .0) returns paces-of-requires walk-one-requires (found .1) (found .2) returns-2 returns-3)

@@ -4,21 +4,16 @@ use Rattle.walks.proofs.Pacing.{within-above, within-square, within-fre
 use Rattle.walks.proofs.walking.is_within.Statement.{statement}
 use Rattle.walks.proofs.walking.is_within.Tie as tie
 
-mul-if2 : tie.Need-mul-if2
-mul-if2 c = search needs
+-- what `search` finds
+found : tie.Need-mul-if2 × tie.Need-add-if2 × tie.Need-mul-result × tie.Need-add-result × tie.Need-mul-result-2 × tie.Need-add-result-2
+found = search needs
 
-add-if2 : tie.Need-add-if2
-add-if2 c = search needs
+returns-5 : tie.Need-returns-5
+returns-5 c = search needs
 
 returns : tie.Need-returns
 returns c =
     within-above (c .before .before .args .lettered) (c .before .before .args .square) (c .before .before .args .fenced) (c .before .before .args .m) (c .before .before .args .x) (c .before .before .args .h) (c .before .if1 .taken) (c .if2 .taken)
-
-mul-result : tie.Need-mul-result
-mul-result c = search needs
-
-add-result : tie.Need-add-result
-add-result c = search needs
 
 returns-2 : tie.Need-returns-2
 returns-2 c =
@@ -28,31 +23,10 @@ returns-3 : tie.Need-returns-3
 returns-3 c =
     within-free (c .before .before .before .args .lettered) (c .before .before .before .args .square) (c .before .before .before .args .fenced) (c .before .before .before .args .m) (c .before .before .before .args .x) (c .before .before .before .args .h) (c .before .before .if1 .taken) (c .before .if2 .left) (c .if3 .left)
 
-mul-result-2 : tie.Need-mul-result-2
-mul-result-2 c = search needs
-
-add-result-2 : tie.Need-add-result-2
-add-result-2 c = search needs
-
 returns-4 : tie.Need-returns-4
 returns-4 c =
     within-fence (c .before .before .args .lettered) (c .before .before .args .square) (c .before .before .args .fenced) (c .before .before .args .m) (c .before .before .args .x) (c .before .before .args .h) (c .before .if1 .left) (c .if4 .taken)
 
-returns-5 : tie.Need-returns-5
-returns-5 c = search needs
-
 pub is-within-spec : {M : Type 1} → statement M
 is-within-spec =
-    tie.close
-    (tie.spec
-    mul-if2
-    add-if2
-    returns
-    mul-result
-    add-result
-    returns-2
-    returns-3
-    mul-result-2
-    add-result-2
-    returns-4
-    returns-5)
+    tie.close (tie.spec (found .0) (found .1) returns (found .2) (found .3) returns-2 returns-3 (found .4) (found .5) returns-4 returns-5)

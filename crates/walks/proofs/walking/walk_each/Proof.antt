@@ -16,41 +16,19 @@ loop-holds : tie.Need-loop-holds Inv-loop μ-loop
 loop-holds c =
     checking-start
 
-mul-end : tie.Need-mul-end Inv-loop μ-loop
-mul-end c =
-    search needs
-
-shared-slice-read-end : tie.Need-shared-slice-read-end Inv-loop μ-loop
-shared-slice-read-end c =
-    search needs
-
-part-requires : tie.Need-part-requires Inv-loop μ-loop
-part-requires c κs =
-    search needs
+-- what `search` finds
+found : tie.Need-mul-end Inv-loop μ-loop × tie.Need-shared-slice-read-end Inv-loop μ-loop × tie.Need-part-requires Inv-loop μ-loop ×
+    tie.Need-enum-known-place Inv-loop μ-loop × tie.Need-enum-told Inv-loop μ-loop × tie.Need-add-i Inv-loop μ-loop ×
+    tie.Need-loop-less Inv-loop μ-loop
+found = search needs
 
 walk-one-requires : tie.Need-walk-one-requires Inv-loop μ-loop
 walk-one-requires c κs =
     c .before .before .before .before .before .before .pre
 
-enum-known-place : tie.Need-enum-known-place Inv-loop μ-loop
-enum-known-place c =
-    search needs
-
 returns : tie.Need-returns Inv-loop μ-loop
 returns c =
     checked-stop (c .before .before .before .before .before .before .before .loop .inv) (c .before .before .before .before .before .before .loop-test .taken) _ (part-stops (c .before .before .before .before .before .before .before .before .before .before .args .p) _ _ _ _ (c .before .before .before .before .part .ensures) (c .before .before .before .walk-one .result) (c .before .before .before .walk-one .ensures) (c .before .place .given .1))
-
-enum-told : tie.Need-enum-told Inv-loop μ-loop
-enum-told c =
-    search needs
-
-add-i : tie.Need-add-i Inv-loop μ-loop
-add-i c =
-    search needs
-
-loop-less : tie.Need-loop-less Inv-loop μ-loop
-loop-less c =
-    search needs
 
 loop-again : tie.Need-loop-again Inv-loop μ-loop
 loop-again c =
@@ -62,19 +40,5 @@ returns-2 c =
 
 pub walk-each-spec : {M : Type 1} → statement M
 walk-each-spec =
-    tie.close
-    (tie.spec
-    Inv-loop
-    μ-loop
-    loop-holds
-    mul-end
-    shared-slice-read-end
-    part-requires
-    walk-one-requires
-    enum-known-place
-    returns
-    enum-told
-    add-i
-    loop-less
-    loop-again
-    returns-2)
+    tie.close (tie.spec Inv-loop μ-loop loop-holds (found .0) (found .1) (found .2) walk-one-requires (found .3) returns (found .4) (found .5)
+    (found .6) loop-again returns-2)

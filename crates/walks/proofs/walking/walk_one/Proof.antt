@@ -20,13 +20,10 @@ loop-holds : tie.Need-loop-holds Inv-loop μ-loop
 loop-holds c =
     stepping-start (c .before .before .before .pre)
 
-shared-slice-read-letter-of : tie.Need-shared-slice-read-letter-of Inv-loop μ-loop
-shared-slice-read-letter-of c =
-    search needs
-
-letter-of-requires : tie.Need-letter-of-requires Inv-loop μ-loop
-letter-of-requires c κs =
-    search needs
+-- what `search` finds
+found : tie.Need-shared-slice-read-letter-of Inv-loop μ-loop × tie.Need-letter-of-requires Inv-loop μ-loop × tie.Need-wide-requires Inv-loop μ-loop ×
+    tie.Need-wide-requires-2 Inv-loop μ-loop × tie.Need-add-i Inv-loop μ-loop × tie.Need-loop-less Inv-loop μ-loop
+found = search needs
 
 returns : tie.Need-returns Inv-loop μ-loop
 returns c =
@@ -36,10 +33,6 @@ array-read-wide : tie.Need-array-read-wide Inv-loop μ-loop
 array-read-wide c =
     omega (arith, c .before .before .before .before .before .loop .inv .paced .paces .few)
 
-wide-requires : tie.Need-wide-requires Inv-loop μ-loop
-wide-requires c κs =
-    search needs
-
 add-x : tie.Need-add-x Inv-loop μ-loop
 add-x c =
     omega (arith, c .wide .ensures, c .before .before .before .before .before .before .loop .inv .paced .paces .strides .a-most (c .before .before .before .letter-of .result) (c .before .if1 .left), c .before .before .before .before .before .before .loop .inv .paced .paces .strides .b-most (c .before .before .before .letter-of .result) (c .before .if1 .left), c .before .before .before .before .before .before .loop .inv .paced .paces .strides .upward (c .before .before .before .letter-of .result) (c .before .if1 .left), c .before .before .before .before .before .before .loop .inv .x-most, c .before .before .before .before .before .before .loop .inv .paced .paces .n-most)
@@ -47,10 +40,6 @@ add-x c =
 array-read-wide-2 : tie.Need-array-read-wide-2 Inv-loop μ-loop
 array-read-wide-2 c =
     omega (arith, c .before .before .before .before .before .before .loop .inv .paced .paces .few)
-
-wide-requires-2 : tie.Need-wide-requires-2 Inv-loop μ-loop
-wide-requires-2 c κs =
-    search needs
 
 mul-h : tie.Need-mul-h Inv-loop μ-loop
 mul-h c =
@@ -80,14 +69,6 @@ returns-3 : tie.Need-returns-3 Inv-loop μ-loop
 returns-3 c =
     out (c .before .before .before .before .before .before .before .before .before .before .before .loop .inv) (c .before .before .before .before .before .before .before .before .before .before .loop-test .taken) (c .before .before .before .before .before .before .before .before .letter-of .ensures) (c .before .before .before .before .before .before .if1 .left) (omega (arith, c .before .before .before .before .before .wide .ensures)) (omega (arith, c .before .before .before .before .before .wide .ensures, c .before .before .before .before .wide2 .ensures)) (c .before .before .if2 .left) (sym (c .before .is-within .ensures) ∙ not-true _ (c .if3 .taken))
 
-add-i : tie.Need-add-i Inv-loop μ-loop
-add-i c =
-    search needs
-
-loop-less : tie.Need-loop-less Inv-loop μ-loop
-loop-less c =
-    search needs
-
 loop-again : tie.Need-loop-again Inv-loop μ-loop
 loop-again c =
     stepping-more (c .before .before .before .before .before .before .before .before .before .before .before .loop .inv) (c .before .before .before .before .before .before .before .before .before .before .loop-test .taken) (c .before .before .before .before .before .before .before .before .letter-of .ensures) (c .before .before .before .before .before .before .if1 .left) (omega (arith, c .before .before .before .before .before .wide .ensures)) (omega (arith, c .before .before .before .before .before .wide .ensures, c .before .before .before .before .wide2 .ensures)) (c .before .before .if2 .left) (sym (c .before .is-within .ensures) ∙ not-false _ (c .if3 .left))
@@ -114,31 +95,5 @@ returns-6 c =
 
 pub walk-one-spec : {M : Type 1} → statement M
 walk-one-spec =
-    tie.close
-    (tie.spec
-    Inv-loop
-    μ-loop
-    loop-holds
-    shared-slice-read-letter-of
-    letter-of-requires
-    returns
-    array-read-wide
-    wide-requires
-    add-x
-    array-read-wide-2
-    wide-requires-2
-    mul-h
-    add-h
-    sub-h
-    add-h-2
-    returns-2
-    is-within-requires
-    returns-3
-    add-i
-    loop-less
-    loop-again
-    returns-4
-    mul-if5
-    add-if5
-    returns-5
-    returns-6)
+    tie.close (tie.spec Inv-loop μ-loop loop-holds (found .0) (found .1) returns array-read-wide (found .2) add-x array-read-wide-2 (found .3) mul-h
+    add-h sub-h add-h-2 returns-2 is-within-requires returns-3 (found .4) (found .5) loop-again returns-4 mul-if5 add-if5 returns-5 returns-6)
