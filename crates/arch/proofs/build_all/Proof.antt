@@ -23,23 +23,11 @@ room : (c : tie.After-known-of) → c .before .has-room .result ≡ true →
     Room (length (args .numbers .now)) (length (args .steps .now)) (length (args .ends .now))
 room c e = room-of _ _ _ (sym (c .before .has-room .ensures) ∙ e)
 
-has-room-requires : tie.Need-has-room-requires
-has-room-requires c κs = search needs
-
-known-of-requires : tie.Need-known-of-requires
-known-of-requires c κs = search needs
-
-enum-told : tie.Need-enum-told
-enum-told c = search needs
-
-enum-told-2 : tie.Need-enum-told-2
-enum-told-2 c = search needs
-
-enum-known-r : tie.Need-enum-known-r
-enum-known-r c = search needs
-
-enum-known-n : tie.Need-enum-known-n
-enum-known-n c = search needs
+-- what `search` finds
+found : tie.Need-has-room-requires × tie.Need-known-of-requires × tie.Need-enum-told × tie.Need-enum-told-2 × tie.Need-enum-known-r ×
+    tie.Need-enum-known-n × tie.Need-enum-known-n-2 × tie.Need-schroder-counts-requires × tie.Need-enum-known-n-3 × tie.Need-motzkin-counts-requires ×
+    tie.Need-same-length × tie.Need-same-length-2 × tie.Need-same-length-3 × tie.Need-same-length-4 × tie.Need-same-length-5 × tie.Need-same-length-6
+found = search needs
 
 dyck-counts-requires : tie.Need-dyck-counts-requires
 dyck-counts-requires c κs = knows (c .before .before .before) (c .before .n .given .1) .small
@@ -49,22 +37,10 @@ write-edges-requires c κs =
     let known = knows (c .before .before .before .before .before .before .before) (c .before .before .before .before .before .n .given .1) in
     (c .before .before .before .dyck-counts .ensures, room (c .before .before .before .before .before .before .before) (known .ends .roomy))
 
-enum-known-n-2 : tie.Need-enum-known-n-2
-enum-known-n-2 c = search needs
-
-schroder-counts-requires : tie.Need-schroder-counts-requires
-schroder-counts-requires c κs = search needs
-
 write-edges-requires-2 : tie.Need-write-edges-requires-2
 write-edges-requires-2 c κs =
     let known = knows (c .before .before .before .before .before .before .before) (c .before .before .before .before .before .n2 .given .1) in
     (table-less true 0 28 _ _ (known .small) (c .before .before .before .schroder-counts .ensures), room (c .before .before .before .before .before .before .before) (known .ends .roomy))
-
-enum-known-n-3 : tie.Need-enum-known-n-3
-enum-known-n-3 c = search needs
-
-motzkin-counts-requires : tie.Need-motzkin-counts-requires
-motzkin-counts-requires c κs = search needs
 
 write-edges-requires-3 : tie.Need-write-edges-requires-3
 write-edges-requires-3 c κs =
@@ -80,33 +56,15 @@ returns-2 c = lines-no-room _ _ _ _ (c .before .before .before .has-room .ensure
 returns-3 : tie.Need-returns-3
 returns-3 c = lines-refusing _ _ _ _ (c .before .before .before .before .has-room .ensures) (knows (c .before .before .before) (c .before .r .given .1))
 
-same-length : tie.Need-same-length
-same-length c = search needs
-
-same-length-2 : tie.Need-same-length-2
-same-length-2 c = search needs
-
 returns-4 : tie.Need-returns-4
 returns-4 c =
     let at = c .before .before .before .before .before .before .before .before .before .before .before .before in
     lines-ending _ _ _ _ (at .before .has-room .ensures) _ _ _ (knows at (c .before .before .before .before .before .before .before .before .before .before .n .given .1) .ends) (c .before .before .before .before .write-edges .ensures)
 
-same-length-3 : tie.Need-same-length-3
-same-length-3 c = search needs
-
-same-length-4 : tie.Need-same-length-4
-same-length-4 c = search needs
-
 returns-5 : tie.Need-returns-5
 returns-5 c =
     let at = c .before .before .before .before .before .before .before .before .before .before .before .before in
     lines-ending _ _ _ _ (at .before .has-room .ensures) _ _ _ (knows at (c .before .before .before .before .before .before .before .before .before .before .n2 .given .1) .ends) (c .before .before .before .before .write-edges2 .ensures)
-
-same-length-5 : tie.Need-same-length-5
-same-length-5 c = search needs
-
-same-length-6 : tie.Need-same-length-6
-same-length-6 c = search needs
 
 returns-6 : tie.Need-returns-6
 returns-6 c =
@@ -115,7 +73,6 @@ returns-6 c =
 
 pub build-all-spec : {M : Type 1} → statement M
 build-all-spec =
-    tie.close (tie.spec has-room-requires known-of-requires enum-told enum-told-2 enum-known-r enum-known-n dyck-counts-requires
-    write-edges-requires enum-known-n-2 schroder-counts-requires write-edges-requires-2 enum-known-n-3 motzkin-counts-requires
-    write-edges-requires-3 returns returns-2 returns-3 same-length same-length-2 returns-4 same-length-3 same-length-4 returns-5
-    same-length-5 same-length-6 returns-6)
+    tie.close (tie.spec (found .0) (found .1) (found .2) (found .3) (found .4) (found .5) dyck-counts-requires write-edges-requires (found .6)
+    (found .7) write-edges-requires-2 (found .8) (found .9) write-edges-requires-3 returns returns-2 returns-3 (found .10) (found .11) returns-4
+    (found .12) (found .13) returns-5 (found .14) (found .15) returns-6)

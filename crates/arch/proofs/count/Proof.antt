@@ -19,41 +19,19 @@ use Rattle.arch.proofs.count.Tie as tie
 knows : (c : tie.After-known-of) {r : Known} → c .known-of .result ≡ r → KnownIs (c .before .before .args .block .now) true r
 knows c e = subst (KnownIs _ _) e (c .known-of .ensures)
 
-known-of-requires : tie.Need-known-of-requires
-known-of-requires c κs = search needs
-
-enum-told : tie.Need-enum-told
-enum-told c = search needs
-
-enum-told-2 : tie.Need-enum-told-2
-enum-told-2 c = search needs
-
-enum-known-r : tie.Need-enum-known-r
-enum-known-r c = search needs
-
-enum-known-n : tie.Need-enum-known-n
-enum-known-n c = search needs
+-- what `search` finds
+found : tie.Need-known-of-requires × tie.Need-enum-told × tie.Need-enum-told-2 × tie.Need-enum-known-r × tie.Need-enum-known-n ×
+    tie.Need-enum-known-n-2 × tie.Need-schroder-counts-requires × tie.Need-enum-known-n-3 × tie.Need-motzkin-counts-requires
+found = search needs
 
 dyck-count-requires : tie.Need-dyck-count-requires
 dyck-count-requires c κs = knows (c .before .before .before) (c .before .n .given .1) .small
-
-enum-known-n-2 : tie.Need-enum-known-n-2
-enum-known-n-2 c = search needs
-
-schroder-counts-requires : tie.Need-schroder-counts-requires
-schroder-counts-requires c κs = search needs
 
 mul-t14 : tie.Need-mul-t14
 mul-t14 c = omega (arith, knows (c .before .before .before .before) (c .before .before .n2 .given .1) .small)
 
 array-read-t17 : tie.Need-array-read-t17
 array-read-t17 c = omega (arith, knows (c .before .before .before .before) (c .before .before .n2 .given .1) .small)
-
-enum-known-n-3 : tie.Need-enum-known-n-3
-enum-known-n-3 c = search needs
-
-motzkin-counts-requires : tie.Need-motzkin-counts-requires
-motzkin-counts-requires c κs = search needs
 
 mul-t20 : tie.Need-mul-t20
 mul-t20 c = omega (arith, knows (c .before .before .before .before) (c .before .before .n3 .given .1) .small)
@@ -87,6 +65,5 @@ returns-6 c =
 
 pub count-spec : {M : Type 1} → statement M
 count-spec =
-    tie.close (tie.spec known-of-requires enum-told enum-told-2 enum-known-r enum-known-n dyck-count-requires enum-known-n-2
-    schroder-counts-requires mul-t14 array-read-t17 enum-known-n-3 motzkin-counts-requires mul-t20 array-read-t23 returns returns-2
-    returns-3 returns-4 returns-5 returns-6)
+    tie.close (tie.spec (found .0) (found .1) (found .2) (found .3) (found .4) dyck-count-requires (found .5) (found .6) mul-t14 array-read-t17
+    (found .7) (found .8) mul-t20 array-read-t23 returns returns-2 returns-3 returns-4 returns-5 returns-6)

@@ -17,20 +17,11 @@ use Rattle.arch.proofs.number_all.Tie as tie
 knows : (c : tie.After-known-of) {r : Known} → c .known-of .result ≡ r → KnownIs (c .before .before .before .before .before .args .block .now) (leb (length (c .before .before .before .before .before .args .ends .now)) (length (c .before .before .before .before .before .args .numbers .now))) r
 knows c e = subst (KnownIs _ _) e (c .known-of .ensures)
 
-known-of-requires : tie.Need-known-of-requires
-known-of-requires c κs = search needs
-
-enum-told : tie.Need-enum-told
-enum-told c = search needs
-
-enum-told-2 : tie.Need-enum-told-2
-enum-told-2 c = search needs
-
-enum-known-r : tie.Need-enum-known-r
-enum-known-r c = search needs
-
-enum-known-n : tie.Need-enum-known-n
-enum-known-n c = search needs
+-- what `search` finds
+found : tie.Need-known-of-requires × tie.Need-enum-told × tie.Need-enum-told-2 × tie.Need-enum-known-r × tie.Need-enum-known-n ×
+    tie.Need-enum-known-n-2 × tie.Need-schroder-counts-requires × tie.Need-enum-known-n-3 × tie.Need-motzkin-counts-requires × tie.Need-same-length ×
+    tie.Need-same-length-2 × tie.Need-same-length-3
+found = search needs
 
 dyck-counts-requires : tie.Need-dyck-counts-requires
 dyck-counts-requires c κs = knows (c .before .before .before) (c .before .n .given .1) .small
@@ -38,22 +29,10 @@ dyck-counts-requires c κs = knows (c .before .before .before) (c .before .n .gi
 number-each-requires : tie.Need-number-each-requires
 number-each-requires c κs = (c .before .before .dyck-counts .ensures, leb-true _ _ (knows (c .before .before .before .before .before .before) (c .before .before .before .before .n .given .1) .ends .roomy))
 
-enum-known-n-2 : tie.Need-enum-known-n-2
-enum-known-n-2 c = search needs
-
-schroder-counts-requires : tie.Need-schroder-counts-requires
-schroder-counts-requires c κs = search needs
-
 number-each-requires-2 : tie.Need-number-each-requires-2
 number-each-requires-2 c κs =
     let known = knows (c .before .before .before .before .before .before) (c .before .before .before .before .n2 .given .1) in
     (table-less true 0 28 _ _ (known .small) (c .before .before .schroder-counts .ensures), leb-true _ _ (known .ends .roomy))
-
-enum-known-n-3 : tie.Need-enum-known-n-3
-enum-known-n-3 c = search needs
-
-motzkin-counts-requires : tie.Need-motzkin-counts-requires
-motzkin-counts-requires c κs = search needs
 
 number-each-requires-3 : tie.Need-number-each-requires-3
 number-each-requires-3 c κs =
@@ -69,26 +48,17 @@ returns-2 c = ranks-no-room _ _ _ _ refl (knows (c .before .before) (c .enum-tol
 returns-3 : tie.Need-returns-3
 returns-3 c = ranks-refusing _ _ _ _ refl (knows (c .before .before .before) (c .before .r .given .1))
 
-same-length : tie.Need-same-length
-same-length c = search needs
-
 returns-4 : tie.Need-returns-4
 returns-4 c = ranks-ending _ _ _ _ refl _ _ (knows (c .before .before .before .before .before .before .before .before .before) (c .before .before .before .before .before .before .before .n .given .1) .ends) (c .before .before .number-each .ensures)
 
-same-length-2 : tie.Need-same-length-2
-same-length-2 c = search needs
-
 returns-5 : tie.Need-returns-5
 returns-5 c = ranks-ending _ _ _ _ refl _ _ (knows (c .before .before .before .before .before .before .before .before .before) (c .before .before .before .before .before .before .before .n2 .given .1) .ends) (c .before .before .number-each2 .ensures)
-
-same-length-3 : tie.Need-same-length-3
-same-length-3 c = search needs
 
 returns-6 : tie.Need-returns-6
 returns-6 c = ranks-ending _ _ _ _ refl _ _ (knows (c .before .before .before .before .before .before .before .before .before) (c .before .before .before .before .before .before .before .n3 .given .1) .ends) (c .before .before .number-each3 .ensures)
 
 pub number-all-spec : {M : Type 1} → statement M
 number-all-spec =
-    tie.close (tie.spec known-of-requires enum-told enum-told-2 enum-known-r enum-known-n dyck-counts-requires number-each-requires
-    enum-known-n-2 schroder-counts-requires number-each-requires-2 enum-known-n-3 motzkin-counts-requires number-each-requires-3
-    returns returns-2 returns-3 same-length returns-4 same-length-2 returns-5 same-length-3 returns-6)
+    tie.close (tie.spec (found .0) (found .1) (found .2) (found .3) (found .4) dyck-counts-requires number-each-requires (found .5) (found .6)
+    number-each-requires-2 (found .7) (found .8) number-each-requires-3 returns returns-2 returns-3 (found .9) returns-4 (found .10) returns-5
+    (found .11) returns-6)

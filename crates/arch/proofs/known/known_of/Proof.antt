@@ -11,11 +11,9 @@ use Rattle.arch.proofs.Knowing.{by-dyck, by-schroder, by-motzkin, dyck-
 use Rattle.arch.proofs.known.known_of.Statement.{statement}
 use Rattle.arch.proofs.known.known_of.Tie as tie
 
-family-of-requires : tie.Need-family-of-requires
-family-of-requires c κs = search needs
-
-is-square-requires : tie.Need-is-square-requires
-is-square-requires c κs = search needs
+-- what `search` finds
+found : tie.Need-family-of-requires × tie.Need-is-square-requires × tie.Need-of-requires × tie.Need-cast-n
+found = search needs
 
 returns : tie.Need-returns
 returns c = mine-by square (c .before .before .before .before .args .block .now) (c .before .before .family-of .ensures) (c .before .is-square .ensures) (not-true _ (c .if1 .taken))
@@ -27,16 +25,10 @@ own c = mine-by square (c .before .before .before .before .args .block .now) (c 
 returns-2 : tie.Need-returns-2
 returns-2 c = (own (c .before), not-true _ (c .if2 .taken))
 
-of-requires : tie.Need-of-requires
-of-requires c κs = search needs
-
 returns-3 : tie.Need-returns-3
 returns-3 c =
     let block = c .before .before .before .before .before .before .before .before .args .block .now in
     refusing-told block (own (c .before .before .before .before)) (not-false _ (c .before .before .before .if2 .left)) (told-of block (c .before .before .of .result) (c .before .before .of .ensures) (c .if3 .taken))
-
-cast-n : tie.Need-cast-n
-cast-n c = search needs
 
 held : (c : tie.Else3) → Held (c .before .before .before .before .before .before .before .before .args .block .now) (c .before .before .before .before .before .before .before .before .args .room) (c .before .before .of .result .job)
 held c = record {
@@ -65,5 +57,5 @@ returns-9 c = held-fits _ _ _ (held (c .before .before .before .before .before .
 
 pub known-of-spec : {M : Type 1} → statement M
 known-of-spec =
-    tie.close (tie.spec family-of-requires is-square-requires returns returns-2 of-requires returns-3 cast-n returns-4 returns-5
-    returns-6 returns-7 returns-8 returns-9)
+    tie.close (tie.spec (found .0) (found .1) returns returns-2 (found .2) returns-3 (found .3) returns-4 returns-5 returns-6 returns-7 returns-8
+    returns-9)

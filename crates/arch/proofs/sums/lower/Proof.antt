@@ -23,40 +23,24 @@ from-far c =
     let at = c .before .before .before in
     far (at .args .d) (at .args .v) (at .args .m) (at .args .i) _ _ (at .pre .2) (c .products2 .ensures) (at .pre .0 .full (at .args .m + at .args .v + 1) (omega arith))
 
-add-j : tie.Need-add-j
-add-j c = search needs
-
-sub-j : tie.Need-sub-j
-sub-j c = search needs
+-- what `search` finds
+found : tie.Need-add-j × tie.Need-sub-j × tie.Need-add-d-count × tie.Need-add-result-2 × tie.Need-add-result-3 × tie.Need-mul-result ×
+    tie.Need-shared-slice-read-result
+found = search needs
 
 products-requires : tie.Need-products-requires
 products-requires c κs = search needs
 
-add-d-count : tie.Need-add-d-count
-add-d-count c = search needs
-
 d-count-requires : tie.Need-d-count-requires
 d-count-requires c κs = search needs
+
+products-requires-2 : tie.Need-products-requires-2
+products-requires-2 c κs = search needs
 
 add-result : tie.Need-add-result
 add-result c =
     let at = c .before .before .before .before in
     omega (arith, from-near c, offset-fits (at .args .d) (at .args .v) (at .args .m) (at .args .n) (at .args .i) (at .args .table .now) (at .pre .0) (at .pre .1) (omega arith))
-
-products-requires-2 : tie.Need-products-requires-2
-products-requires-2 c κs = search needs
-
-add-result-2 : tie.Need-add-result-2
-add-result-2 c = search needs
-
-add-result-3 : tie.Need-add-result-3
-add-result-3 c = search needs
-
-mul-result : tie.Need-mul-result
-mul-result c = search needs
-
-shared-slice-read-result : tie.Need-shared-slice-read-result
-shared-slice-read-result c = search needs
 
 sub-result : tie.Need-sub-result
 sub-result c = from-far (c .before) .0
@@ -69,5 +53,5 @@ returns-2 c = from-far (c .before) .1
 
 pub lower-spec : {M : Type 1} → statement M
 lower-spec =
-    tie.close (tie.spec add-j sub-j products-requires add-d-count d-count-requires add-result products-requires-2 add-result-2
-    add-result-3 mul-result shared-slice-read-result sub-result returns returns-2)
+    tie.close (tie.spec (found .0) (found .1) products-requires (found .2) d-count-requires add-result products-requires-2 (found .3) (found .4)
+    (found .5) (found .6) sub-result returns returns-2)
