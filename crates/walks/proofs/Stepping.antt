@@ -1,6 +1,7 @@
 -- The loop of `walk_one`: what is left of the string goes on from the point at x and h. Assumes nothing.
 --
 --   Stepping p e x h i            the first i steps keep the rules, and lead to x and h; stepping-start: none of them
+--   stride                        how far a step goes
 --   not-step, beyond, out         the step at i breaks a rule, so that i is the place
 --   stepping-more                 it keeps the rules
 --   not-there, not-level, arrived the string is at its end, and there or not
@@ -86,6 +87,9 @@ module _ (J : Job) (e : List ℕ) (i : ℕ) where
   ended s l t r = sym (place-by t (edge-by ∙ ap (λ (b : Bool). b && same (reached J (startOf J) e) (endOf J)) (eq-eqb (stopOf J e) (length e) (s ∙ l)) ∙ r) s)
 
 module _ {p : Paces} {e : List ℕ} {x h i : ℕ} (w : Stepping p e x h i) where
+  pub stride : {l : ℕ} → l < p .k → (getD (p .a) l 0 ≤ 3) × (getD (p .b) l 0 ≤ 131) × (128 ≤ getD (p .b) l 0 + 3 * getD (p .a) l 0)
+  stride {l} o = let s = w .paced .paces .strides in (s .a-most l o, s .b-most l o, s .upward l o)
+
   module _ (t : i < length e) {l : ℕ} (q : l ≡ letterOf (p .lettered) (p .k) (getD e i 0)) where
     -- the step at i breaks a rule
     breaks : ((J : Job) → PacesOf p J → keeps J (spot x h) (getD e i 0) ≡ false) → StopsAs p e (At i)
@@ -104,8 +108,8 @@ module _ {p : Paces} {e : List ℕ} {x h i : ℕ} (w : Stepping p e x h i) where
       kept : (J : Job) → PacesOf p J → x′ ≤ p .n → keeps J (spot x h) (getD e i 0) ≡ within (p .lettered) (p .square) (p .fenced) (p .m) x′ h′
       kept J s d = rw (ex, eh) (kept-on s x h (getD e i 0) l q o (omega arith))
 
-      pub out : x′ ≤ p .n → within (p .lettered) (p .square) (p .fenced) (p .m) x′ h′ ≡ false → StopsAs p e (At i)
-      out d v = breaks (λ J s. kept J s d ∙ v)
+      pub out : x′ ≤ p .n → {r : Bool} → r ≡ within (p .lettered) (p .square) (p .fenced) (p .m) x′ h′ → r ≡ false → StopsAs p e (At i)
+      out d f v = breaks (λ J s. kept J s d ∙ sym f ∙ v)
 
       low-enough : within (p .lettered) (p .square) (p .fenced) (p .m) x′ h′ ≡ true → h′ ≤ highest p x′
       low-enough v = go (p .lettered) refl v (w .h-most)
@@ -114,12 +118,12 @@ module _ {p : Paces} {e : List ℕ} {x h i : ℕ} (w : Stepping p e x h i) where
           go true r v b = leb→le h′ (3 * x′ + p .m) (and-right (pick (p .square) (leb h′ (4 * x′ + 128)) true) (leb h′ (3 * x′ + p .m)) (holds v))
           go false r v b = omega (arith, w .paced .paces .strides .a-least r l o, w .paced .paces .strides .b-most l o)
 
-      pub stepping-more : x′ ≤ p .n → within (p .lettered) (p .square) (p .fenced) (p .m) x′ h′ ≡ true → Stepping p e x′ h′ (i + 1)
+      pub stepping-more : x′ ≤ p .n → {r : Bool} → r ≡ within (p .lettered) (p .square) (p .fenced) (p .m) x′ h′ → r ≡ true → Stepping p e x′ h′ (i + 1)
       unfolding reached
-      stepping-more d v = record {
+      stepping-more d f v = record {
         paced = w .paced;
         x-most = d;
-        h-most = low-enough v;
+        h-most = low-enough (sym f ∙ v);
         passed = omega arith;
         onward = λ J s. more J s;
       }
@@ -129,14 +133,14 @@ module _ {p : Paces} {e : List ℕ} {x h i : ℕ} (w : Stepping p e x h i) where
               let b = getD e i 0 in
               let rest = drop (suc i) e in
               let g : moved (spot x h) (stepOf J b) ≡ spot x′ h′ = rw (ex, eh) (step-to s x h b l q o) in
-              let f : drop (i + 1) e ≡ rest = ap (λ (k : ℕ). drop k e) (add-one i) in
+              let u : drop (i + 1) e ≡ rest = ap (λ (k : ℕ). drop k e) (add-one i) in
               let z : stopFrom J (spot x h) (drop i e) ≡ suc (stopFrom J (spot x′ h′) rest) =
-              ap (stopFrom J (spot x h)) (drop-cons e i 0 t) ∙ stop-on J (spot x h) b rest (kept J s d ∙ v) ∙ ap (λ (y : Point). suc (stopFrom J y rest)) g in
+              ap (stopFrom J (spot x h)) (drop-cons e i 0 t) ∙ stop-on J (spot x h) b rest (kept J s d ∙ sym f ∙ v) ∙ ap (λ (y : Point). suc (stopFrom J y rest)) g in
               let r : reached J (spot x h) (drop i e) ≡ reached J (spot x′ h′) rest =
               ap (reached J (spot x h)) (drop-cons e i 0 t) ∙ ap (λ (y : Point). reached J y rest) g in
               record {
-                stop = rw f (omega (arith, w .onward J s .stop, z));
-                at = w .onward J s .at ∙ r ∙ ap (reached J (spot x′ h′)) (sym f);
+                stop = rw u (omega (arith, w .onward J s .stop, z));
+                at = w .onward J s .at ∙ r ∙ ap (reached J (spot x′ h′)) (sym u);
               }
 
   module _ (t : length e ≤ i) where

@@ -1,6 +1,7 @@
 -- `walks::walk` meets its contract: the job of the block is walked. Assumes nothing.
 use borrow.Author.Needs.{needs}
-use Rattle.job.proofs.Standing.{kept-of, told-of}
+use Rattle.job.proofs.Standing.{Kept, kept-of, told-of}
+use Rattle.walks.specs.Paces.{PacesOf}
 use Rattle.walks.proofs.Pacing.{held-n, held-paced}
 use Rattle.walks.proofs.Checking.{walk-refused, walk-told, stops-said}
 use Rattle.walks.proofs.walk.Statement.{statement}
@@ -14,21 +15,30 @@ returns : tie.Need-returns
 returns c =
     walk-refused _ _ (told-of (c .before .before .before .before .args .block .now) (c .before .of .result) (c .before .of .ensures) (c .if1 .taken) .answer)
 
+-- the job that the block has, and its paces
+kept : (c : tie.Else1) → Kept (c .before .before .before .before .args .block .now) (c .before .of .result .job)
+kept c = kept-of _ (c .before .of .result) (λ i. c .before .before .before .shared-slice-known .given i .fits) (c .before .of .ensures) (c .if1 .left)
+
+paced : (c : tie.After-paces-of) → PacesOf (c .paces-of .result) (kept (c .before) .job)
+paced c = held-paced (c .paces-of .ensures) (kept (c .before) .stands)
+
 paces-of-requires : tie.Need-paces-of-requires
-paces-of-requires c κs =
-    held-n (kept-of (c .before .before .before .before .args .block .now) (c .before .of .result) (λ i. c .before .before .before .shared-slice-known .given i .fits) (c .before .of .ensures) (c .if1 .left) .stands)
+paces-of-requires c κs = held-n (kept c .stands)
 
 walk-one-requires : tie.Need-walk-one-requires
-walk-one-requires c κs =
-    let k = kept-of (c .before .before .before .before .before .args .block .now) (c .before .before .of .result) (λ i. c .before .before .before .before .shared-slice-known .given i .fits) (c .before .before .of .ensures) (c .before .if1 .left) in record { job = k .job; paces = held-paced (c .paces-of .ensures) (k .stands) }
+walk-one-requires c κs = record { job = kept (c .before) .job; paces = paced c }
 
 returns-2 : tie.Need-returns-2
 returns-2 c =
-    let k = kept-of (c .before .before .before .before .before .before .before .before .args .block .now) (c .before .before .before .before .before .of .result) (λ i. c .before .before .before .before .before .before .before .shared-slice-known .given i .fits) (c .before .before .before .before .before .of .ensures) (c .before .before .before .before .if1 .left) in walk-told _ _ (k .answer) (stops-said (c .before .before .before .paces-of .result) (k .job) _ (c .before .before .walk-one .result) (held-paced (c .before .before .before .paces-of .ensures) (k .stands)) (c .before .before .walk-one .ensures) (c .enum-told .given .1))
+    let at = c .before .before .before in
+    let walked = c .before .before .walk-one in
+    walk-told _ _ (kept (at .before) .answer) (stops-said (at .paces-of .result) (kept (at .before) .job) _ (walked .result) (paced at) (walked .ensures) (c .enum-told .given .1))
 
 returns-3 : tie.Need-returns-3
 returns-3 c =
-    let k = kept-of (c .before .before .before .before .before .before .before .before .before .args .block .now) (c .before .before .before .before .before .before .of .result) (λ i. c .before .before .before .before .before .before .before .before .shared-slice-known .given i .fits) (c .before .before .before .before .before .before .of .ensures) (c .before .before .before .before .before .if1 .left) in walk-told _ _ (k .answer) (stops-said (c .before .before .before .before .paces-of .result) (k .job) _ (c .before .before .before .walk-one .result) (held-paced (c .before .before .before .before .paces-of .ensures) (k .stands)) (c .before .before .before .walk-one .ensures) (c .before .place .given .1))
+    let at = c .before .before .before .before in
+    let walked = c .before .before .before .walk-one in
+    walk-told _ _ (kept (at .before) .answer) (stops-said (at .paces-of .result) (kept (at .before) .job) _ (walked .result) (paced at) (walked .ensures) (c .before .place .given .1))
 
 pub walk-spec : {M : Type 1} → statement M
 walk-spec =

@@ -1,7 +1,9 @@
 -- `walks::paces::paces_of` meets its contract, branch by branch. Assumes nothing.
-use mathlib.Core.Path.{refl, sym, _∙_}
+use mathlib.Core.Path.{_≡_, refl, sym, _∙_}
+use mathlib.Core.Bool.{false}
 use borrow.Author.Needs.{needs}
 use borrow.Author.Tests.{eq-eqb, ne-eqb}
+use Rattle.rules.specs.Blocks.{paired}
 use Rattle.walks.specs.Paces.{pacesOf}
 use Rattle.walks.proofs.paces.paces_of.Statement.{statement}
 use Rattle.walks.proofs.paces.paces_of.Tie as tie
@@ -17,30 +19,43 @@ unfolding pacesOf
 returns c =
     rw (c .before .before .before .before .before .before .wide .ensures, c .before .before .before .before .before .wide2 .ensures, c .wide3 .ensures, sym (c .before .before .before .before .is-paired .ensures) ∙ c .before .before .before .if1 .taken) refl
 
+-- the family has letters
+unpaired : (c : tie.Else1) → paired (c .before .before .before .before .args .job .family) ≡ false
+unpaired c = sym (c .before .is-paired .ensures) ∙ c .if1 .left
+
 returns-2 : tie.Need-returns-2
 unfolding pacesOf
 returns-2 c =
-    c .lettered-paces .ensures ∙ rw (c .before .before .before .before .before .wide .ensures, c .before .before .before .before .wide2 .ensures, sym (c .before .before .before .is-paired .ensures) ∙ c .before .before .if1 .left, eq-eqb _ _ (c .before .if2 .taken)) refl
+    let at = c .before .before in
+    c .lettered-paces .ensures ∙ rw (at .before .before .before .wide .ensures, at .before .before .wide2 .ensures, unpaired at, eq-eqb _ _ (c .before .if2 .taken)) refl
 
 returns-3 : tie.Need-returns-3
 unfolding pacesOf
 returns-3 c =
-    c .lettered-paces2 .ensures ∙ rw (c .before .before .before .before .before .before .wide .ensures, c .before .before .before .before .before .wide2 .ensures, sym (c .before .before .before .before .is-paired .ensures) ∙ c .before .before .before .if1 .left, ne-eqb _ _ (c .before .before .if2 .left), eq-eqb _ _ (c .before .if3 .taken)) refl
+    let at = c .before .before .before in
+    c .lettered-paces2 .ensures
+    ∙ rw (at .before .before .before .wide .ensures, at .before .before .wide2 .ensures, unpaired at, ne-eqb _ _ (c .before .before .if2 .left), eq-eqb _ _ (c .before .if3 .taken)) refl
 
 returns-4 : tie.Need-returns-4
 unfolding pacesOf
 returns-4 c =
-    c .lettered-paces3 .ensures ∙ rw (c .before .before .before .before .before .before .before .wide .ensures, sym (c .before .before .before .before .before .is-paired .ensures) ∙ c .before .before .before .before .if1 .left, ne-eqb _ _ (c .before .before .before .if2 .left), ne-eqb _ _ (c .before .before .if3 .left), eq-eqb _ _ (c .before .if4 .taken)) refl
+    let at = c .before .before .before .before in
+    c .lettered-paces3 .ensures
+    ∙ rw (at .before .before .before .wide .ensures, unpaired at, ne-eqb _ _ (c .before .before .before .if2 .left), ne-eqb _ _ (c .before .before .if3 .left), eq-eqb _ _ (c .before .if4 .taken)) refl
 
 returns-5 : tie.Need-returns-5
 unfolding pacesOf
 returns-5 c =
-    c .lettered-paces4 .ensures ∙ rw (c .before .before .before .before .before .before .before .before .wide .ensures, sym (c .before .before .before .before .before .before .is-paired .ensures) ∙ c .before .before .before .before .before .if1 .left, ne-eqb _ _ (c .before .before .before .before .if2 .left), ne-eqb _ _ (c .before .before .before .if3 .left), ne-eqb _ _ (c .before .before .if4 .left), eq-eqb _ _ (c .before .if5 .taken)) refl
+    let at = c .before .before .before .before .before in
+    c .lettered-paces4 .ensures
+    ∙ rw (at .before .before .before .wide .ensures, unpaired at, ne-eqb _ _ (c .before .before .before .before .if2 .left), ne-eqb _ _ (c .before .before .before .if3 .left), ne-eqb _ _ (c .before .before .if4 .left), eq-eqb _ _ (c .before .if5 .taken)) refl
 
 returns-6 : tie.Need-returns-6
 unfolding pacesOf
 returns-6 c =
-    c .lettered-paces5 .ensures ∙ rw (c .before .before .before .before .before .before .before .before .wide .ensures, sym (c .before .before .before .before .before .before .is-paired .ensures) ∙ c .before .before .before .before .before .if1 .left, ne-eqb _ _ (c .before .before .before .before .if2 .left), ne-eqb _ _ (c .before .before .before .if3 .left), ne-eqb _ _ (c .before .before .if4 .left), ne-eqb _ _ (c .before .if5 .left)) refl
+    let at = c .before .before .before .before .before in
+    c .lettered-paces5 .ensures
+    ∙ rw (at .before .before .before .wide .ensures, unpaired at, ne-eqb _ _ (c .before .before .before .before .if2 .left), ne-eqb _ _ (c .before .before .before .if3 .left), ne-eqb _ _ (c .before .before .if4 .left), ne-eqb _ _ (c .before .if5 .left)) refl
 
 pub paces-of-spec : {M : Type 1} → statement M
 paces-of-spec =

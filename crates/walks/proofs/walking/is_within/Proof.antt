@@ -13,19 +13,23 @@ returns-5 c = search needs
 
 returns : tie.Need-returns
 returns c =
-    within-above (c .before .before .args .lettered) (c .before .before .args .square) (c .before .before .args .fenced) (c .before .before .args .m) (c .before .before .args .x) (c .before .before .args .h) (c .before .if1 .taken) (c .if2 .taken)
+    let args = c .before .before .args in
+    within-above (args .lettered) (args .square) (args .fenced) (args .m) (args .x) (args .h) (c .before .if1 .taken) (c .if2 .taken)
 
 returns-2 : tie.Need-returns-2
 returns-2 c =
-    within-square (c .before .before .before .args .lettered) (c .before .before .before .args .square) (c .before .before .before .args .fenced) (c .before .before .before .args .m) (c .before .before .before .args .x) (c .before .before .before .args .h) (c .before .before .if1 .taken) (c .before .if2 .left) (c .if3 .taken)
+    let args = c .before .before .before .args in
+    within-square (args .lettered) (args .square) (args .fenced) (args .m) (args .x) (args .h) (c .before .before .if1 .taken) (c .before .if2 .left) (c .if3 .taken)
 
 returns-3 : tie.Need-returns-3
 returns-3 c =
-    within-free (c .before .before .before .args .lettered) (c .before .before .before .args .square) (c .before .before .before .args .fenced) (c .before .before .before .args .m) (c .before .before .before .args .x) (c .before .before .before .args .h) (c .before .before .if1 .taken) (c .before .if2 .left) (c .if3 .left)
+    let args = c .before .before .before .args in
+    within-free (args .lettered) (args .square) (args .fenced) (args .m) (args .x) (args .h) (c .before .before .if1 .taken) (c .before .if2 .left) (c .if3 .left)
 
 returns-4 : tie.Need-returns-4
 returns-4 c =
-    within-fence (c .before .before .args .lettered) (c .before .before .args .square) (c .before .before .args .fenced) (c .before .before .args .m) (c .before .before .args .x) (c .before .before .args .h) (c .before .if1 .left) (c .if4 .taken)
+    let args = c .before .before .args in
+    within-fence (args .lettered) (args .square) (args .fenced) (args .m) (args .x) (args .h) (c .before .if1 .left) (c .if4 .taken)
 
 pub is-within-spec : {M : Type 1} → statement M
 is-within-spec =

@@ -1,7 +1,11 @@
 -- `walks::walking::walk_each` meets its contract: a string more at each turn. Assumes nothing.
+use mathlib.Core.Path.{_≡_}
 use Prim.Native.Nat.{_-_}
-use lib.ListN.{length}
+use lib.ListN.{length, getD}
 use borrow.Author.Needs.{needs}
+use Rattle.rules.specs.Packs.{partOf}
+use Rattle.walks.specs.declared.walking.Stop.{Stop}
+use Rattle.walks.specs.Paces.{StopsAs}
 use Rattle.walks.proofs.Checking.{Checking, checking-start, checking-more, checked-stop, checked-all, part-stops}
 use Rattle.walks.proofs.walking.walk_each.Statement.{statement}
 use Rattle.walks.proofs.walking.walk_each.Tie as tie
@@ -26,13 +30,21 @@ walk-one-requires : tie.Need-walk-one-requires Inv-loop μ-loop
 walk-one-requires c κs =
     c .before .before .before .before .before .before .pre
 
+-- where the string of this turn stops
+stops : (c : tie.After-walk-one Inv-loop μ-loop) {q : Stop} → c .walk-one .result ≡ q →
+    let args = c .before .before .before .before .before .before .before .args in
+    StopsAs (args .p) (partOf (args .bytes .now) (c .before .before .before .before .loop .at) (getD (args .ends .now) (c .before .before .before .before .loop .i) 0)) q
+stops c e = part-stops (c .before .before .before .before .before .before .before .args .p) _ _ _ _ (c .before .part .ensures) (c .walk-one .result) (c .walk-one .ensures) e
+
 returns : tie.Need-returns Inv-loop μ-loop
 returns c =
-    checked-stop (c .before .before .before .before .before .before .before .loop .inv) (c .before .before .before .before .before .before .loop-test .taken) _ (part-stops (c .before .before .before .before .before .before .before .before .before .before .args .p) _ _ _ _ (c .before .before .before .before .part .ensures) (c .before .before .before .walk-one .result) (c .before .before .before .walk-one .ensures) (c .before .place .given .1))
+    let at = c .before .before .before in
+    checked-stop (at .before .before .before .before .loop .inv) (at .before .before .before .loop-test .taken) _ (stops at (c .before .place .given .1))
 
 loop-again : tie.Need-loop-again Inv-loop μ-loop
 loop-again c =
-    checking-more (c .before .before .before .before .before .before .loop .inv) (c .before .before .before .before .before .loop-test .taken) (part-stops (c .before .before .before .before .before .before .before .before .before .args .p) _ _ _ _ (c .before .before .before .part .ensures) (c .before .before .walk-one .result) (c .before .before .walk-one .ensures) (c .enum-told .given .1))
+    let at = c .before .before in
+    checking-more (at .before .before .before .before .loop .inv) (at .before .before .before .loop-test .taken) (stops at (c .enum-told .given .1))
 
 returns-2 : tie.Need-returns-2 Inv-loop μ-loop
 returns-2 c =

@@ -1,12 +1,11 @@
 -- `walks::walking::walk_one` meets its contract. The loop's invariant: the first i steps keep the rules, and what is left goes on from the
 -- point at x and h. Assumes nothing.
-use mathlib.Core.Path.{sym, _∙_}
-use Prim.Native.Nat.{_-_}
+use Prim.Native.Nat.{_+_, _-_, _*_, _≤_}
 use native.Mathlib.Omega.{arith}
 use lib.ListN.{length}
 use borrow.Author.Needs.{needs}
 use borrow.Author.Tests.{not-true, not-false}
-use Rattle.walks.proofs.Stepping.{Stepping, stepping-start, height-most, not-step, beyond, out, stepping-more, not-there, not-level, arrived}
+use Rattle.walks.proofs.Stepping.{Stepping, stepping-start, height-most, stride, not-step, beyond, out, stepping-more, not-there, not-level, arrived}
 use Rattle.walks.proofs.walking.walk_one.Statement.{statement}
 use Rattle.walks.proofs.walking.walk_one.Tie as tie
 
@@ -33,45 +32,60 @@ array-read-wide : tie.Need-array-read-wide Inv-loop μ-loop
 array-read-wide c =
     omega (arith, c .before .before .before .before .before .loop .inv .paced .paces .few)
 
+-- how far the step goes
+right-by : (c : tie.After-wide Inv-loop μ-loop) → c .wide .result ≤ 3
+right-by c = omega (arith, c .wide .ensures, stride (c .before .before .before .before .before .before .loop .inv) (c .before .if1 .left))
+
+up-by : (c : tie.After-wide2 Inv-loop μ-loop) → (c .wide2 .result ≤ 131) × (128 ≤ c .wide2 .result + 3 * c .before .wide .result)
+up-by c =
+    let s = stride (c .before .before .before .before .before .before .before .loop .inv) (c .before .before .if1 .left) in
+    (omega (arith, c .wide2 .ensures), omega (arith, c .before .wide .ensures, c .wide2 .ensures))
+
 add-x : tie.Need-add-x Inv-loop μ-loop
 add-x c =
-    omega (arith, c .wide .ensures, c .before .before .before .before .before .before .loop .inv .paced .paces .strides .a-most (c .before .before .before .letter-of .result) (c .before .if1 .left), c .before .before .before .before .before .before .loop .inv .paced .paces .strides .b-most (c .before .before .before .letter-of .result) (c .before .if1 .left), c .before .before .before .before .before .before .loop .inv .paced .paces .strides .upward (c .before .before .before .letter-of .result) (c .before .if1 .left), c .before .before .before .before .before .before .loop .inv .x-most, c .before .before .before .before .before .before .loop .inv .paced .paces .n-most)
+    let inv = c .before .before .before .before .before .before .loop .inv in
+    omega (arith, right-by c, inv .x-most, inv .paced .paces .n-most)
 
 array-read-wide-2 : tie.Need-array-read-wide-2 Inv-loop μ-loop
 array-read-wide-2 c =
     omega (arith, c .before .before .before .before .before .before .loop .inv .paced .paces .few)
 
 mul-h : tie.Need-mul-h Inv-loop μ-loop
-mul-h c =
-    omega (arith, c .before .wide .ensures, c .before .before .before .before .before .before .before .loop .inv .paced .paces .strides .a-most (c .before .before .before .before .letter-of .result) (c .before .before .if1 .left), c .before .before .before .before .before .before .before .loop .inv .paced .paces .strides .b-most (c .before .before .before .before .letter-of .result) (c .before .before .if1 .left), c .before .before .before .before .before .before .before .loop .inv .paced .paces .strides .upward (c .before .before .before .before .letter-of .result) (c .before .before .if1 .left))
+mul-h c = omega (arith, right-by (c .before))
 
 add-h : tie.Need-add-h Inv-loop μ-loop
-add-h c =
-    omega (arith, c .before .wide .ensures, c .wide2 .ensures, c .before .before .before .before .before .before .before .loop .inv .paced .paces .strides .a-most (c .before .before .before .before .letter-of .result) (c .before .before .if1 .left), c .before .before .before .before .before .before .before .loop .inv .paced .paces .strides .b-most (c .before .before .before .before .letter-of .result) (c .before .before .if1 .left), c .before .before .before .before .before .before .before .loop .inv .paced .paces .strides .upward (c .before .before .before .before .letter-of .result) (c .before .before .if1 .left))
+add-h c = omega (arith, right-by (c .before), up-by c)
 
 sub-h : tie.Need-sub-h Inv-loop μ-loop
-sub-h c =
-    omega (arith, c .before .wide .ensures, c .wide2 .ensures, c .before .before .before .before .before .before .before .loop .inv .paced .paces .strides .a-most (c .before .before .before .before .letter-of .result) (c .before .before .if1 .left), c .before .before .before .before .before .before .before .loop .inv .paced .paces .strides .b-most (c .before .before .before .before .letter-of .result) (c .before .before .if1 .left), c .before .before .before .before .before .before .before .loop .inv .paced .paces .strides .upward (c .before .before .before .before .letter-of .result) (c .before .before .if1 .left))
+sub-h c = omega (arith, right-by (c .before), up-by c)
 
 add-h-2 : tie.Need-add-h-2 Inv-loop μ-loop
-add-h-2 c =
-    omega (arith, c .before .wide .ensures, c .wide2 .ensures, c .before .before .before .before .before .before .before .loop .inv .paced .paces .strides .a-most (c .before .before .before .before .letter-of .result) (c .before .before .if1 .left), c .before .before .before .before .before .before .before .loop .inv .paced .paces .strides .b-most (c .before .before .before .before .letter-of .result) (c .before .before .if1 .left), c .before .before .before .before .before .before .before .loop .inv .paced .paces .strides .upward (c .before .before .before .before .letter-of .result) (c .before .before .if1 .left), height-most (c .before .before .before .before .before .before .before .loop .inv))
+add-h-2 c = omega (arith, right-by (c .before), up-by c, height-most (c .before .before .before .before .before .before .before .loop .inv))
 
 returns-2 : tie.Need-returns-2 Inv-loop μ-loop
 returns-2 c =
-    beyond (c .before .before .before .before .before .before .before .before .before .loop .inv) (c .before .before .before .before .before .before .before .before .loop-test .taken) (c .before .before .before .before .before .before .letter-of .ensures) (c .before .before .before .before .if1 .left) (omega (arith, c .before .before .before .wide .ensures)) (c .if2 .taken)
+    let at = c .before .before .before in
+    beyond (at .before .before .before .before .before .before .loop .inv) (at .before .before .before .before .before .loop-test .taken) (at .before .before .before .letter-of .ensures) (at .before .if1 .left)
+    (omega (arith, at .wide .ensures)) (c .if2 .taken)
 
 is-within-requires : tie.Need-is-within-requires Inv-loop μ-loop
 is-within-requires c κs =
-    (omega (arith, c .if2 .left, c .before .before .before .before .before .before .before .before .before .loop .inv .paced .paces .n-most), c .before .before .before .before .before .before .before .before .before .loop .inv .paced .paces .m-most)
+    let paces = c .before .before .before .before .before .before .before .before .before .loop .inv .paced .paces in
+    (omega (arith, c .if2 .left, paces .n-most), paces .m-most)
 
 returns-3 : tie.Need-returns-3 Inv-loop μ-loop
 returns-3 c =
-    out (c .before .before .before .before .before .before .before .before .before .before .before .loop .inv) (c .before .before .before .before .before .before .before .before .before .before .loop-test .taken) (c .before .before .before .before .before .before .before .before .letter-of .ensures) (c .before .before .before .before .before .before .if1 .left) (omega (arith, c .before .before .before .before .before .wide .ensures)) (omega (arith, c .before .before .before .before .before .wide .ensures, c .before .before .before .before .wide2 .ensures)) (c .before .before .if2 .left) (sym (c .before .is-within .ensures) ∙ not-true _ (c .if3 .taken))
+    let at = c .before .before .before .before .before in
+    out (at .before .before .before .before .before .before .loop .inv) (at .before .before .before .before .before .loop-test .taken) (at .before .before .before .letter-of .ensures) (at .before .if1 .left)
+    (omega (arith, at .wide .ensures)) (omega (arith, at .wide .ensures, c .before .before .before .before .wide2 .ensures)) (c .before .before .if2 .left)
+    (c .before .is-within .ensures) (not-true _ (c .if3 .taken))
 
 loop-again : tie.Need-loop-again Inv-loop μ-loop
 loop-again c =
-    stepping-more (c .before .before .before .before .before .before .before .before .before .before .before .loop .inv) (c .before .before .before .before .before .before .before .before .before .before .loop-test .taken) (c .before .before .before .before .before .before .before .before .letter-of .ensures) (c .before .before .before .before .before .before .if1 .left) (omega (arith, c .before .before .before .before .before .wide .ensures)) (omega (arith, c .before .before .before .before .before .wide .ensures, c .before .before .before .before .wide2 .ensures)) (c .before .before .if2 .left) (sym (c .before .is-within .ensures) ∙ not-false _ (c .if3 .left))
+    let at = c .before .before .before .before .before in
+    stepping-more (at .before .before .before .before .before .before .loop .inv) (at .before .before .before .before .before .loop-test .taken) (at .before .before .before .letter-of .ensures) (at .before .if1 .left)
+    (omega (arith, at .wide .ensures)) (omega (arith, at .wide .ensures, c .before .before .before .before .wide2 .ensures)) (c .before .before .if2 .left)
+    (c .before .is-within .ensures) (not-false _ (c .if3 .left))
 
 returns-4 : tie.Need-returns-4 Inv-loop μ-loop
 returns-4 c =
