@@ -6,44 +6,22 @@ use Rattle.calls.proofs.Routes.{taken-count, passed-count, none-counts}
 use Rattle.calls.proofs.count.Statement.{statement}
 use Rattle.calls.proofs.count.Tie as tie
 
-count-requires : tie.Need-count-requires
-count-requires c κs = search needs
-
-enum-known-r : tie.Need-enum-known-r
-enum-known-r c = search needs
+-- what `search` finds
+found : tie.Need-count-requires × tie.Need-enum-known-r × tie.Need-enum-told × tie.Need-count-requires-2 × tie.Need-enum-known-r-2 ×
+    tie.Need-enum-told-2 × tie.Need-count-requires-3 × tie.Need-enum-known-r-3 × tie.Need-enum-told-3
+found = search needs
 
 returns : tie.Need-returns
 returns c =
     taken-count (square (familyOf (c .before .before .before .before .before .args .block .now))) (countAnswer (c .before .before .before .before .before .args .block .now)) _ (c .before .before .before .count .ensures) _ (c .before .r .given .1)
 
-enum-told : tie.Need-enum-told
-enum-told c = search needs
-
-count-requires-2 : tie.Need-count-requires-2
-count-requires-2 c κs = search needs
-
-enum-known-r-2 : tie.Need-enum-known-r-2
-enum-known-r-2 c = search needs
-
 returns-2 : tie.Need-returns-2
 returns-2 c =
     taken-count (plain (familyOf (c .before .before .before .before .before .before .before .before .args .block .now))) (countAnswer (c .before .before .before .before .before .before .before .before .args .block .now)) _ (c .before .before .before .count2 .ensures) _ (c .before .r2 .given .1)
 
-enum-told-2 : tie.Need-enum-told-2
-enum-told-2 c = search needs
-
-count-requires-3 : tie.Need-count-requires-3
-count-requires-3 c κs = search needs
-
-enum-known-r-3 : tie.Need-enum-known-r-3
-enum-known-r-3 c = search needs
-
 returns-3 : tie.Need-returns-3
 returns-3 c =
     taken-count (paired (familyOf (c .before .before .before .before .before .before .before .before .before .before .before .args .block .now))) (countAnswer (c .before .before .before .before .before .before .before .before .before .before .before .args .block .now)) _ (c .before .before .before .count3 .ensures) _ (c .before .r3 .given .1)
-
-enum-told-3 : tie.Need-enum-told-3
-enum-told-3 c = search needs
 
 returns-4 : tie.Need-returns-4
 returns-4 c =
@@ -51,18 +29,5 @@ returns-4 c =
 
 pub count-spec : {M : Type 1} → statement M
 count-spec =
-    tie.close
-    (tie.spec
-    count-requires
-    enum-known-r
-    returns
-    enum-told
-    count-requires-2
-    enum-known-r-2
-    returns-2
-    enum-told-2
-    count-requires-3
-    enum-known-r-3
-    returns-3
-    enum-told-3
+    tie.close (tie.spec (found .0) (found .1) returns (found .2) (found .3) (found .4) returns-2 (found .5) (found .6) (found .7) returns-3 (found .8)
     returns-4)

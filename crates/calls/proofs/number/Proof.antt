@@ -7,29 +7,10 @@ use Rattle.calls.proofs.Ones.{one-told, one-untold, one-room}
 use Rattle.calls.proofs.number.Statement.{statement}
 use Rattle.calls.proofs.number.Tie as tie
 
-slice-aggregate-number-all : tie.Need-slice-aggregate-number-all
-slice-aggregate-number-all c = search needs
-
-slice-aggregate-number-all-2 : tie.Need-slice-aggregate-number-all-2
-slice-aggregate-number-all-2 c = search needs
-
-number-all-requires : tie.Need-number-all-requires
-number-all-requires c κs = search needs
-
-enum-known-n : tie.Need-enum-known-n
-enum-known-n c = search needs
-
-array-read-told : tie.Need-array-read-told
-array-read-told c = search needs
-
-told-requires : tie.Need-told-requires
-told-requires c κs = search needs
-
-enum-known-r : tie.Need-enum-known-r
-enum-known-r c = search needs
-
-enum-told : tie.Need-enum-told
-enum-told c = search needs
+-- what `search` finds
+found : tie.Need-slice-aggregate-number-all × tie.Need-slice-aggregate-number-all-2 × tie.Need-number-all-requires × tie.Need-enum-known-n ×
+    tie.Need-array-read-told × tie.Need-told-requires × tie.Need-enum-known-r × tie.Need-enum-told
+found = search needs
 
 returns : tie.Need-returns
 returns c =
@@ -45,16 +26,4 @@ returns-3 c =
 
 pub number-spec : {M : Type 1} → statement M
 number-spec =
-    tie.close
-    (tie.spec
-    slice-aggregate-number-all
-    slice-aggregate-number-all-2
-    number-all-requires
-    enum-known-n
-    array-read-told
-    told-requires
-    enum-known-r
-    enum-told
-    returns
-    returns-2
-    returns-3)
+    tie.close (tie.spec (found .0) (found .1) (found .2) (found .3) (found .4) (found .5) (found .6) (found .7) returns returns-2 returns-3)

@@ -6,17 +6,9 @@ use borrow.Author.Needs.{needs}
 use Rattle.calls.proofs.width.Statement.{statement}
 use Rattle.calls.proofs.width.Tie as tie
 
-count-requires : tie.Need-count-requires
-count-requires c κs = search needs
-
-enum-known-c : tie.Need-enum-known-c
-enum-known-c c = search needs
-
-width-of-requires : tie.Need-width-of-requires
-width-of-requires c κs = search needs
-
-enum-known-r : tie.Need-enum-known-r
-enum-known-r c = search needs
+-- what `search` finds
+found : tie.Need-count-requires × tie.Need-enum-known-c × tie.Need-width-of-requires × tie.Need-enum-known-r
+found = search needs
 
 returns : tie.Need-returns
 returns c = width-value _ _ _ (c .width-of .ensures) (sym (ap countSays (c .before .before .c .given .1)) ∙ c .before .before .before .before .count .ensures)
@@ -26,5 +18,4 @@ returns-2 c = width-refusal _ _ (sym (ap countSays (c .before .r .given .1)) ∙
 
 pub width-spec : {M : Type 1} → statement M
 width-spec =
-    tie.close
-    (tie.spec count-requires enum-known-c width-of-requires enum-known-r returns returns-2)
+    tie.close (tie.spec (found .0) (found .1) (found .2) (found .3) returns returns-2)
