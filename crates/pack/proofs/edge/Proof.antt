@@ -22,11 +22,10 @@ says c = sym (ap partSays (c .before .start .given .1)) ∙ c .before .before .b
 inside : (c : tie.After-known-told) → Inside (c .before .before .before .before .before .args .pack .now) (found c)
 inside c = part-inside (c .before .before .before .before .before .args .pack .now) (c .before .before .before .before .before .args .i) (found c) (says c)
 
-part-requires : tie.Need-part-requires
-part-requires c κs = search needs
-
-enum-known-start : tie.Need-enum-known-start
-enum-known-start c = search needs
+-- what `search` finds
+by-search : tie.Need-part-requires × tie.Need-enum-known-start × tie.Need-enum-told × tie.Need-sub-result-2 × tie.Need-part-result-start-2 ×
+    tie.Need-part-result-end-2
+by-search = search needs
 
 sub-result : tie.Need-sub-result
 sub-result c = omega (arith, inside c .rise)
@@ -36,18 +35,6 @@ part-result-start c = omega (arith, inside c .rise, inside c .within)
 
 part-result-end : tie.Need-part-result-end
 part-result-end c = omega (arith, inside c .within)
-
-enum-told : tie.Need-enum-told
-enum-told c = search needs
-
-sub-result-2 : tie.Need-sub-result-2
-sub-result-2 c = search needs
-
-part-result-start-2 : tie.Need-part-result-start-2
-part-result-start-2 c = search needs
-
-part-result-end-2 : tie.Need-part-result-end-2
-part-result-end-2 c = search needs
 
 returns : tie.Need-returns
 returns c = rw (answer-value (partAnswer (c .before .before .before .before .before .before .args .pack .now) (c .before .before .before .before .before .before .args .i)) (found (c .before)) (says (c .before))) (record { block = refl; place = refl; bytes = refl })
@@ -59,16 +46,5 @@ returns-2 c =
 
 pub edge-spec : {M : Type 1} → statement M
 edge-spec =
-    tie.close
-    (tie.spec
-    part-requires
-    enum-known-start
-    sub-result
-    part-result-start
-    part-result-end
-    enum-told
-    sub-result-2
-    part-result-start-2
-    part-result-end-2
-    returns
+    tie.close (tie.spec (by-search .0) (by-search .1) sub-result part-result-start part-result-end (by-search .2) (by-search .3) (by-search .4) (by-search .5) returns
     returns-2)

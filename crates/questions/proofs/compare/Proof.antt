@@ -7,26 +7,10 @@ use Rattle.questions.proofs.Comparing.{second-refused, second-refused-t
 use Rattle.questions.proofs.compare.Statement.{statement}
 use Rattle.questions.proofs.compare.Tie as tie
 
-number-requires : tie.Need-number-requires
-number-requires c κs = search needs
-
-enum-known-x : tie.Need-enum-known-x
-enum-known-x c = search needs
-
-number-requires-2 : tie.Need-number-requires-2
-number-requires-2 c κs = search needs
-
-enum-known-y : tie.Need-enum-known-y
-enum-known-y c = search needs
-
-which-of-requires : tie.Need-which-of-requires
-which-of-requires c κs = search needs
-
-enum-known-r : tie.Need-enum-known-r
-enum-known-r c = search needs
-
-enum-known-r-2 : tie.Need-enum-known-r-2
-enum-known-r-2 c = search needs
+-- what `search` finds
+found : tie.Need-number-requires × tie.Need-enum-known-x × tie.Need-number-requires-2 × tie.Need-enum-known-y × tie.Need-which-of-requires ×
+    tie.Need-enum-known-r × tie.Need-enum-known-r-2
+found = search needs
 
 returns : tie.Need-returns
 returns c =
@@ -42,15 +26,4 @@ returns-3 c =
 
 pub compare-spec : {M : Type 1} → statement M
 compare-spec =
-    tie.close
-    (tie.spec
-    number-requires
-    enum-known-x
-    number-requires-2
-    enum-known-y
-    which-of-requires
-    enum-known-r
-    enum-known-r-2
-    returns
-    returns-2
-    returns-3)
+    tie.close (tie.spec (found .0) (found .1) (found .2) (found .3) (found .4) (found .5) (found .6) returns returns-2 returns-3)

@@ -8,48 +8,26 @@ use Rattle.questions.proofs.Dipping.{dip-told, dip-over, dip-kind, dip-
 use Rattle.questions.proofs.dip.Statement.{statement}
 use Rattle.questions.proofs.dip.Tie as tie
 
-of-requires : tie.Need-of-requires
-of-requires c κs = search needs
+-- what `search` finds
+found : tie.Need-of-requires × tie.Need-count-requires × tie.Need-enum-known-r × tie.Need-enum-told × tie.Need-is-paired-requires ×
+    tie.Need-walk-requires × tie.Need-enum-told-2 × tie.Need-enum-told-3 × tie.Need-enum-told-4
+found = search needs
 
 returns : tie.Need-returns
 returns c =
     dip-told (c .before .before .before .before .args .block .now) (c .before .before .before .before .args .edge .now) (told-of (c .before .before .before .before .args .block .now) (c .before .of .result) (c .before .of .ensures) (c .if1 .taken))
 
-count-requires : tie.Need-count-requires
-count-requires c κs = search needs
-
-enum-known-r : tie.Need-enum-known-r
-enum-known-r c = search needs
-
 returns-2 : tie.Need-returns-2
 returns-2 c =
     dip-over (c .before .before .before .before .before .before .before .before .args .block .now) (c .before .before .before .before .before .before .before .before .args .edge .now) _ (sym (ap countSays (c .before .r .given .1)) ∙ c .before .before .before .count .ensures)
-
-enum-told : tie.Need-enum-told
-enum-told c = search needs
-
-is-paired-requires : tie.Need-is-paired-requires
-is-paired-requires c κs = search needs
 
 returns-3 : tie.Need-returns-3
 returns-3 c =
     dip-kind (c .before .before .before .before .before .before .before .before .before .before .args .block .now) (c .before .before .before .before .before .before .before .before .before .before .args .edge .now) (kept-of (c .before .before .before .before .before .before .before .before .before .before .args .block .now) (c .before .before .before .before .before .before .before .of .result) (λ i. c .before .before .before .before .before .before .before .before .before .shared-slice-known .given i .fits) (c .before .before .before .before .before .before .before .of .ensures) (c .before .before .before .before .before .before .if1 .left)) (sym (ap countSays (c .before .before .before .enum-told .given .1)) ∙ c .before .before .before .before .before .count .ensures) (sym (c .before .is-paired .ensures) ∙ not-true _ (c .if2 .taken))
 
-walk-requires : tie.Need-walk-requires
-walk-requires c κs = search needs
-
-enum-told-2 : tie.Need-enum-told-2
-enum-told-2 c = search needs
-
 first-rise-requires : tie.Need-first-rise-requires
 first-rise-requires c κs =
     dip-digits (c .before .before .before .before .before .before .before .before .before .before .before .before .before .args .block .now) (c .before .before .before .before .before .before .before .before .before .before .before .before .before .args .edge .now) (kept-of (c .before .before .before .before .before .before .before .before .before .before .before .before .before .args .block .now) (c .before .before .before .before .before .before .before .before .before .before .of .result) (λ i. c .before .before .before .before .before .before .before .before .before .before .before .before .shared-slice-known .given i .fits) (c .before .before .before .before .before .before .before .before .before .before .of .ensures) (c .before .before .before .before .before .before .before .before .before .if1 .left)) (sym (ap countSays (c .before .before .before .before .before .before .enum-told .given .1)) ∙ c .before .before .before .before .before .before .before .before .count .ensures) (sym (c .before .before .before .before .is-paired .ensures) ∙ not-false _ (c .before .before .before .if2 .left)) (c .before .before .walk .result) (c .before .before .walk .ensures) (c .enum-told2 .given .1)
-
-enum-told-3 : tie.Need-enum-told-3
-enum-told-3 c = search needs
-
-enum-told-4 : tie.Need-enum-told-4
-enum-told-4 c = search needs
 
 returns-4 : tie.Need-returns-4
 returns-4 c =
@@ -65,21 +43,5 @@ returns-6 c =
 
 pub dip-spec : {M : Type 1} → statement M
 dip-spec =
-    tie.close
-    (tie.spec
-    of-requires
-    returns
-    count-requires
-    enum-known-r
-    returns-2
-    enum-told
-    is-paired-requires
-    returns-3
-    walk-requires
-    enum-told-2
-    first-rise-requires
-    enum-told-3
-    enum-told-4
-    returns-4
-    returns-5
-    returns-6)
+    tie.close (tie.spec (found .0) returns (found .1) (found .2) returns-2 (found .3) (found .4) returns-3 (found .5) (found .6) first-rise-requires
+    (found .7) (found .8) returns-4 returns-5 returns-6)

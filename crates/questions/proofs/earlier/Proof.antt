@@ -7,26 +7,10 @@ use Rattle.questions.proofs.Comparing.{handed-first, handed-second, han
 use Rattle.questions.proofs.earlier.Statement.{statement}
 use Rattle.questions.proofs.earlier.Tie as tie
 
-compare-requires : tie.Need-compare-requires
-compare-requires c κs = search needs
-
-enum-told : tie.Need-enum-told
-enum-told c = search needs
-
-enum-told-2 : tie.Need-enum-told-2
-enum-told-2 c = search needs
-
-enum-told-3 : tie.Need-enum-told-3
-enum-told-3 c = search needs
-
-sub-result : tie.Need-sub-result
-sub-result c = search needs
-
-part-result-start : tie.Need-part-result-start
-part-result-start c = search needs
-
-part-result-end : tie.Need-part-result-end
-part-result-end c = search needs
+-- what `search` finds
+found : tie.Need-compare-requires × tie.Need-enum-told × tie.Need-enum-told-2 × tie.Need-enum-told-3 × tie.Need-sub-result ×
+    tie.Need-part-result-start × tie.Need-part-result-end
+found = search needs
 
 returns : tie.Need-returns
 returns c =
@@ -42,15 +26,4 @@ returns-3 c =
 
 pub earlier-spec : {M : Type 1} → statement M
 earlier-spec =
-    tie.close
-    (tie.spec
-    compare-requires
-    enum-told
-    enum-told-2
-    enum-told-3
-    sub-result
-    part-result-start
-    part-result-end
-    returns
-    returns-2
-    returns-3)
+    tie.close (tie.spec (found .0) (found .1) (found .2) (found .3) (found .4) (found .5) (found .6) returns returns-2 returns-3)

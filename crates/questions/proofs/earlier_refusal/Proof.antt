@@ -7,17 +7,9 @@ use Rattle.questions.proofs.Comparing.{refusal-none, refusal-some}
 use Rattle.questions.proofs.earlier_refusal.Statement.{statement}
 use Rattle.questions.proofs.earlier_refusal.Tie as tie
 
-compare-requires : tie.Need-compare-requires
-compare-requires c κs = search needs
-
-enum-told : tie.Need-enum-told
-enum-told c = search needs
-
-enum-told-2 : tie.Need-enum-told-2
-enum-told-2 c = search needs
-
-enum-known-r : tie.Need-enum-known-r
-enum-known-r c = search needs
+-- what `search` finds
+found : tie.Need-compare-requires × tie.Need-enum-told × tie.Need-enum-told-2 × tie.Need-enum-known-r
+found = search needs
 
 returns : tie.Need-returns
 returns c =
@@ -33,5 +25,4 @@ returns-3 c =
 
 pub earlier-refusal-spec : {M : Type 1} → statement M
 earlier-refusal-spec =
-    tie.close
-    (tie.spec compare-requires enum-told enum-told-2 enum-known-r returns returns-2 returns-3)
+    tie.close (tie.spec (found .0) (found .1) (found .2) (found .3) returns returns-2 returns-3)

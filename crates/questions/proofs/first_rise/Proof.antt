@@ -24,13 +24,9 @@ shared-slice-read-wide : tie.Need-shared-slice-read-wide Inv-loop μ-loop
 shared-slice-read-wide c =
     omega arith
 
-wide-requires : tie.Need-wide-requires Inv-loop μ-loop
-wide-requires c κs =
-    search needs
-
-cast-l : tie.Need-cast-l Inv-loop μ-loop
-cast-l c =
-    search needs
+-- what `search` finds
+found : tie.Need-wide-requires Inv-loop μ-loop × tie.Need-cast-l Inv-loop μ-loop × tie.Need-remembered-requires Inv-loop μ-loop
+found = search needs
 
 sub-l : tie.Need-sub-l Inv-loop μ-loop
 sub-l c =
@@ -43,10 +39,6 @@ array-read-up c =
 returns : tie.Need-returns Inv-loop μ-loop
 returns c =
     dips-at (c .before .before .before .before .before .loop .inv) (c .before .before .before .before .loop-test .taken) (ap (λ (k : ℕ). getD (c .before .before .before .before .before .before .before .before .args .job .b) (k - 49) 0) (c .before .before .wide .ensures)) (c .before .if1 .taken) (c .if2 .taken)
-
-remembered-requires : tie.Need-remembered-requires Inv-loop μ-loop
-remembered-requires c κs =
-    search needs
 
 add-i : tie.Need-add-i Inv-loop μ-loop
 add-i c =
@@ -66,19 +58,5 @@ returns-2 c =
 
 pub first-rise-spec : {M : Type 1} → statement M
 first-rise-spec =
-    tie.close
-    (tie.spec
-    Inv-loop
-    μ-loop
-    loop-holds
-    shared-slice-read-wide
-    wide-requires
-    cast-l
-    sub-l
-    array-read-up
-    returns
-    remembered-requires
-    add-i
-    loop-less
-    loop-again
-    returns-2)
+    tie.close (tie.spec Inv-loop μ-loop loop-holds shared-slice-read-wide (found .0) (found .1) sub-l array-read-up returns (found .2) add-i loop-less
+    loop-again returns-2)

@@ -20,29 +20,18 @@ loop-holds : tie.Need-loop-holds Inv-loop μ-loop
 loop-holds c =
     ending-start _ _ (c .edge-count .ensures .0)
 
-add-offset-at : tie.Need-add-offset-at Inv-loop μ-loop
-add-offset-at c =
-    search needs
+-- what `search` finds
+found : tie.Need-add-offset-at Inv-loop μ-loop × tie.Need-mul-ends Inv-loop μ-loop × tie.Need-add-i Inv-loop μ-loop ×
+    tie.Need-loop-less Inv-loop μ-loop
+found = search needs
 
 offset-at-requires : tie.Need-offset-at-requires Inv-loop μ-loop
 offset-at-requires c κs =
     omega (arith, c .before .before .before .before .pre .edge (c .before .loop .i) (omega (arith, c .loop-test .taken, c .before .before .edge-count .ensures .0)) .table)
 
-mul-ends : tie.Need-mul-ends Inv-loop μ-loop
-mul-ends c =
-    search needs
-
 array-write-ends : tie.Need-array-write-ends Inv-loop μ-loop
 array-write-ends c =
     omega (arith, c .before .before .loop .inv .long, c .before .loop-test .taken, c .before .before .before .edge-count .ensures .0, c .before .before .before .before .before .pre .few)
-
-add-i : tie.Need-add-i Inv-loop μ-loop
-add-i c =
-    search needs
-
-loop-less : tie.Need-loop-less Inv-loop μ-loop
-loop-less c =
-    search needs
 
 loop-again : tie.Need-loop-again Inv-loop μ-loop
 loop-again c =
@@ -54,17 +43,5 @@ returns c =
 
 pub ends-of-spec : {M : Type 1} → statement M
 ends-of-spec =
-    tie.close
-    (tie.spec
-    Inv-loop
-    μ-loop
-    edge-count-requires
-    loop-holds
-    add-offset-at
-    offset-at-requires
-    mul-ends
-    array-write-ends
-    add-i
-    loop-less
-    loop-again
-    returns)
+    tie.close (tie.spec Inv-loop μ-loop edge-count-requires loop-holds (found .0) offset-at-requires (found .1) array-write-ends (found .2) (found .3)
+    loop-again returns)

@@ -12,29 +12,19 @@ returns c = sym (laid-at _ _ refl ∙ simp (lt-leb _ _ (c .if1 .taken)))
 returns-2 : tie.Need-returns-2
 returns-2 c = sym (laid-at _ _ refl ∙ simp (le-leb _ _ (c .before .if1 .left), lt-leb _ _ (c .if2 .taken)))
 
-is-marked-requires : tie.Need-is-marked-requires
-is-marked-requires c κs = search needs
+-- what `search` finds
+found : tie.Need-is-marked-requires × tie.Need-edge-count-requires × tie.Need-mul-first × tie.Need-add-first × tie.Need-offset-at-requires ×
+    tie.Need-offset-at-requires-2
+found = search needs
 
 returns-3 : tie.Need-returns-3
 returns-3 c = sym (laid-at _ _ refl ∙ simp (le-leb _ _ (c .before .before .before .if1 .left), le-leb _ _ (c .before .before .if2 .left), sym (c .before .is-marked .ensures) ∙ not-true _ (c .if3 .taken)))
 
-edge-count-requires : tie.Need-edge-count-requires
-edge-count-requires c κs = search needs
-
 returns-4 : tie.Need-returns-4
 returns-4 c = sym (laid-at _ _ (c .before .edge-count .ensures .0) ∙ simp (le-leb _ _ (c .before .before .before .before .before .if1 .left), le-leb _ _ (c .before .before .before .before .if2 .left), sym (c .before .before .before .is-marked .ensures) ∙ not-false _ (c .before .before .if3 .left), lt-leb _ _ (c .if4 .taken)))
 
-mul-first : tie.Need-mul-first
-mul-first c = search needs
-
-add-first : tie.Need-add-first
-add-first c = search needs
-
 returns-5 : tie.Need-returns-5
 returns-5 c = sym (laid-at _ _ (c .before .before .edge-count .ensures .0) ∙ simp (le-leb _ _ (c .before .before .before .before .before .before .if1 .left), le-leb _ _ (c .before .before .before .before .before .if2 .left), sym (c .before .before .before .before .is-marked .ensures) ∙ not-false _ (c .before .before .before .if3 .left), le-leb _ _ (c .before .if4 .left), lt-leb _ _ (c .if5 .taken)))
-
-offset-at-requires : tie.Need-offset-at-requires
-offset-at-requires c κs = search needs
 
 returns-6 : tie.Need-returns-6
 returns-6 c = sym (laid-at _ _ (c .before .before .before .before .edge-count .ensures .0) ∙ simp (le-leb _ _ (c .before .before .before .before .before .before .before .before .if1 .left), le-leb _ _ (c .before .before .before .before .before .before .before .if2 .left), sym (c .before .before .before .before .before .before .is-marked .ensures) ∙ not-false _ (c .before .before .before .before .before .if3 .left), le-leb _ _ (c .before .before .before .if4 .left), le-leb _ _ (c .before .before .if5 .left), ne-eqb _ _ (λ e. c .if6 .taken (c .before .offset-at .ensures ∙ e))))
@@ -45,28 +35,10 @@ is-rising-requires c κs = search needs
 returns-7 : tie.Need-returns-7
 returns-7 c = sym (laid-at _ _ (c .before .before .before .before .before .before .edge-count .ensures .0) ∙ simp (le-leb _ _ (c .before .before .before .before .before .before .before .before .before .before .if1 .left), le-leb _ _ (c .before .before .before .before .before .before .before .before .before .if2 .left), sym (c .before .before .before .before .before .before .before .before .is-marked .ensures) ∙ not-false _ (c .before .before .before .before .before .before .before .if3 .left), le-leb _ _ (c .before .before .before .before .before .if4 .left), le-leb _ _ (c .before .before .before .before .if5 .left), eq-eqb _ _ (sym (c .before .before .before .offset-at .ensures) ∙ c .before .before .if6 .left), sym (c .before .is-rising .ensures) ∙ not-true _ (c .if7 .taken)))
 
-offset-at-requires-2 : tie.Need-offset-at-requires-2
-offset-at-requires-2 c κs = search needs
-
 returns-8 : tie.Need-returns-8
 returns-8 c = sym (laid-at _ _ (c .before .before .before .before .before .before .before .edge-count .ensures .0) ∙ simp (le-leb _ _ (c .before .before .before .before .before .before .before .before .before .before .before .if1 .left), le-leb _ _ (c .before .before .before .before .before .before .before .before .before .before .if2 .left), sym (c .before .before .before .before .before .before .before .before .before .is-marked .ensures) ∙ not-false _ (c .before .before .before .before .before .before .before .before .if3 .left), le-leb _ _ (c .before .before .before .before .before .before .if4 .left), le-leb _ _ (c .before .before .before .before .before .if5 .left), eq-eqb _ _ (sym (c .before .before .before .before .offset-at .ensures) ∙ c .before .before .before .if6 .left), sym (c .before .before .is-rising .ensures) ∙ not-false _ (c .before .if7 .left), sym (c .offset-at2 .ensures)))
 
 pub is-laid-spec : {M : Type 1} → statement M
 is-laid-spec =
-    tie.close
-    (tie.spec
-    returns
-    returns-2
-    is-marked-requires
-    returns-3
-    edge-count-requires
-    returns-4
-    mul-first
-    add-first
-    returns-5
-    offset-at-requires
-    returns-6
-    is-rising-requires
-    returns-7
-    offset-at-requires-2
-    returns-8)
+    tie.close (tie.spec returns returns-2 (found .0) returns-3 (found .1) returns-4 (found .2) (found .3) returns-5 (found .4) returns-6
+    is-rising-requires returns-7 (found .5) returns-8)

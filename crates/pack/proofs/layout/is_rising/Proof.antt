@@ -19,23 +19,13 @@ loop-holds : tie.Need-loop-holds Inv-loop μ-loop
 unfolding rises
 loop-holds c = (omega arith, refl)
 
-add-offset-at : tie.Need-add-offset-at Inv-loop μ-loop
-add-offset-at c = search needs
-
-offset-at-requires : tie.Need-offset-at-requires Inv-loop μ-loop
-offset-at-requires c κs = search needs
-
-offset-at-requires-2 : tie.Need-offset-at-requires-2 Inv-loop μ-loop
-offset-at-requires-2 c κs = search needs
+-- what `search` finds
+found : tie.Need-add-offset-at Inv-loop μ-loop × tie.Need-offset-at-requires Inv-loop μ-loop × tie.Need-offset-at-requires-2 Inv-loop μ-loop ×
+    tie.Need-add-i Inv-loop μ-loop × tie.Need-loop-less Inv-loop μ-loop
+found = search needs
 
 returns : tie.Need-returns Inv-loop μ-loop
 returns c = sym (rises-not _ _ _ (c .before .before .before .loop-test .taken) (omega (arith, c .if1 .taken, c .before .before .offset-at .ensures, c .before .offset-at2 .ensures)))
-
-add-i : tie.Need-add-i Inv-loop μ-loop
-add-i c = search needs
-
-loop-less : tie.Need-loop-less Inv-loop μ-loop
-loop-less c = search needs
 
 loop-again : tie.Need-loop-again Inv-loop μ-loop
 loop-again c = (search needs, rises-more _ _ (c .before .before .before .before .loop .inv .1) (omega (arith, c .if1 .left, c .before .before .offset-at .ensures, c .before .offset-at2 .ensures)))
@@ -45,16 +35,4 @@ returns-2 c = let q : c .before .loop .i ≡ c .before .before .before .args .c 
 
 pub is-rising-spec : {M : Type 1} → statement M
 is-rising-spec =
-    tie.close
-    (tie.spec
-    Inv-loop
-    μ-loop
-    loop-holds
-    add-offset-at
-    offset-at-requires
-    offset-at-requires-2
-    returns
-    add-i
-    loop-less
-    loop-again
-    returns-2)
+    tie.close (tie.spec Inv-loop μ-loop loop-holds (found .0) (found .1) (found .2) returns (found .3) (found .4) loop-again returns-2)

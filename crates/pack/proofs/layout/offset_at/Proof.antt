@@ -5,17 +5,13 @@ use borrow.Author.Needs.{needs}
 use Rattle.pack.proofs.layout.offset_at.Statement.{statement}
 use Rattle.pack.proofs.layout.offset_at.Tie as tie
 
-mul-word-at : tie.Need-mul-word-at
-mul-word-at c = search needs
-
-add-word-at : tie.Need-add-word-at
-add-word-at c = search needs
-
-word-at-requires : tie.Need-word-at-requires
-word-at-requires c κs = search needs
+-- what `search` finds
+found : tie.Need-mul-word-at × tie.Need-add-word-at × tie.Need-word-at-requires
+found = search needs
 
 returns : tie.Need-returns
 returns c = c .word-at .ensures .0 ∙ offset-is _ _
 
 pub offset-at-spec : {M : Type 1} → statement M
-offset-at-spec = tie.close (tie.spec mul-word-at add-word-at word-at-requires returns)
+offset-at-spec =
+    tie.close (tie.spec (found .0) (found .1) (found .2) returns)

@@ -27,17 +27,9 @@ slice-aggregate-walk-all : tie.Need-slice-aggregate-walk-all
 slice-aggregate-walk-all c =
     sym (length-take-le _ _ (omega (arith, c .before .before .ends-of .ensures .long, c .before .before .before .edge-count .ensures .0, c .before .before .before .before .before .before .pre .few)))
 
-walk-all-requires : tie.Need-walk-all-requires
-walk-all-requires c κs = search needs
-
-enum-told : tie.Need-enum-told
-enum-told c = search needs
-
-enum-told-2 : tie.Need-enum-told-2
-enum-told-2 c = search needs
-
-enum-told-3 : tie.Need-enum-told-3
-enum-told-3 c = search needs
+-- what `search` finds
+found : tie.Need-walk-all-requires × tie.Need-enum-told × tie.Need-enum-told-2 × tie.Need-enum-told-3
+found = search needs
 
 returns : tie.Need-returns
 returns c =
@@ -53,17 +45,5 @@ returns-3 c =
 
 pub edges-refusal-spec : {M : Type 1} → statement M
 edges-refusal-spec =
-    tie.close
-    (tie.spec
-    edge-count-requires
-    ends-of-requires
-    offset-at-requires
-    array-share-prefix-ends
-    slice-aggregate-walk-all
-    walk-all-requires
-    enum-told
-    enum-told-2
-    enum-told-3
-    returns
-    returns-2
-    returns-3)
+    tie.close (tie.spec edge-count-requires ends-of-requires offset-at-requires array-share-prefix-ends slice-aggregate-walk-all (found .0) (found .1)
+    (found .2) (found .3) returns returns-2 returns-3)

@@ -11,31 +11,18 @@ use Rattle.pack.proofs.Reading.{read-bad, read-told, read-edges}
 use Rattle.pack.proofs.refusals.refusal_of.Statement.{statement}
 use Rattle.pack.proofs.refusals.refusal_of.Tie as tie
 
-is-laid-requires : tie.Need-is-laid-requires
-is-laid-requires c κs = search needs
+-- what `search` finds
+found : tie.Need-is-laid-requires × tie.Need-sub-block × tie.Need-part-block-start × tie.Need-count-requires × tie.Need-enum-known-r ×
+    tie.Need-enum-told
+found = search needs
 
 returns : tie.Need-returns
 returns c =
     read-bad (c .before .before .before .args .pack .now) (sym (c .before .is-laid .ensures) ∙ not-true _ (c .if1 .taken))
 
-sub-block : tie.Need-sub-block
-sub-block c = search needs
-
-part-block-start : tie.Need-part-block-start
-part-block-start c = search needs
-
 part-block-end : tie.Need-part-block-end
 part-block-end c =
     let h = laid-of (c .before .before .before .args .pack .now) (sym (c .before .is-laid .ensures) ∙ not-false _ (c .if1 .left)) in omega (arith, h .least)
-
-count-requires : tie.Need-count-requires
-count-requires c κs = search needs
-
-enum-known-r : tie.Need-enum-known-r
-enum-known-r c = search needs
-
-enum-told : tie.Need-enum-told
-enum-told c = search needs
 
 edges-refusal-requires : tie.Need-edges-refusal-requires
 edges-refusal-requires c κs =
@@ -51,16 +38,5 @@ returns-3 c =
 
 pub refusal-of-spec : {M : Type 1} → statement M
 refusal-of-spec =
-    tie.close
-    (tie.spec
-    is-laid-requires
-    returns
-    sub-block
-    part-block-start
-    part-block-end
-    count-requires
-    enum-known-r
-    enum-told
-    edges-refusal-requires
-    returns-2
+    tie.close (tie.spec (found .0) returns (found .1) (found .2) part-block-end (found .3) (found .4) (found .5) edges-refusal-requires returns-2
     returns-3)

@@ -41,20 +41,13 @@ loop-holds c = (omega arith, refl)
 are-equal-requires : tie.Need-are-equal-requires Inv-loop μ-loop Inv-search μ-search
 are-equal-requires c κs = (c .before .before .before .before .before .before .pre .edge (c .before .before .before .search .later) (omega (arith, c .before .before .before .before .edge-count .ensures .0, c .before .before .search-test .taken)), c .before .before .before .before .before .before .pre .edge (c .before .loop .earlier) (omega (arith, c .before .before .before .before .edge-count .ensures .0, c .before .before .search-test .taken)))
 
-add-earlier : tie.Need-add-earlier Inv-loop μ-loop Inv-search μ-search
-add-earlier c = search needs
-
-loop-less : tie.Need-loop-less Inv-loop μ-loop Inv-search μ-search
-loop-less c = search needs
+-- what `search` finds
+found : tie.Need-add-earlier Inv-loop μ-loop Inv-search μ-search × tie.Need-loop-less Inv-loop μ-loop Inv-search μ-search ×
+    tie.Need-add-later Inv-loop μ-loop Inv-search μ-search × tie.Need-search-less Inv-loop μ-loop Inv-search μ-search
+found = search needs
 
 loop-again : tie.Need-loop-again Inv-loop μ-loop Inv-search μ-search
 loop-again c = (search needs, least-more _ _ (c .before .before .before .loop .inv .1) (equals-is _ _ _ _ (c .before .before .before .before .search-test .taken) (omega arith) ∙ sym (c .before .are-equal .ensures) ∙ c .if1 .left))
-
-add-later : tie.Need-add-later Inv-loop μ-loop Inv-search μ-search
-add-later c = search needs
-
-search-less : tie.Need-search-less Inv-loop μ-loop Inv-search μ-search
-search-less c = search needs
 
 search-again : tie.Need-search-again Inv-loop μ-loop Inv-search μ-search
 search-again c = (search needs, least-more _ _ (c .before .before .before .search .inv .1) (alone _ _ _ (omega arith) (c .before .loop .inv .1)))
@@ -74,21 +67,5 @@ returns-2 c = ap value (sym (twice-none _ _ (omega (arith, edges-length (c .befo
 
 pub first-repeat-spec : {M : Type 1} → statement M
 first-repeat-spec =
-    tie.close
-    (tie.spec
-    Inv-loop
-    μ-loop
-    Inv-search
-    μ-search
-    edge-count-requires
-    search-holds
-    loop-holds
-    are-equal-requires
-    add-earlier
-    loop-less
-    loop-again
-    add-later
-    search-less
-    search-again
-    returns
-    returns-2)
+    tie.close (tie.spec Inv-loop μ-loop Inv-search μ-search edge-count-requires search-holds loop-holds are-equal-requires (found .0) (found .1)
+    loop-again (found .2) (found .3) search-again returns returns-2)
