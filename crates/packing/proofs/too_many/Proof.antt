@@ -5,14 +5,9 @@ use borrow.Author.Needs.{needs}
 use Rattle.packing.proofs.too_many.Statement.{statement}
 use Rattle.packing.proofs.too_many.Tie as tie
 
-count-requires : tie.Need-count-requires
-count-requires c κs = search needs
-
-enum-told : tie.Need-enum-told
-enum-told c = search needs
-
-enum-known-r : tie.Need-enum-known-r
-enum-known-r c = search needs
+-- what `search` finds
+found : tie.Need-count-requires × tie.Need-enum-told × tie.Need-enum-known-r
+found = search needs
 
 returns : tie.Need-returns
 returns c = many-known (c .before .before .before .before .args .block .now) [] _ _ (c .enum-told .given .1) (c .before .before .count .ensures)
@@ -21,4 +16,5 @@ returns-2 : tie.Need-returns-2
 returns-2 c = many-told (c .before .before .before .before .before .args .block .now) [] _ _ (c .before .r .given .1) (c .before .before .before .count .ensures)
 
 pub too-many-spec : {M : Type 1} → statement M
-too-many-spec = tie.close (tie.spec count-requires enum-told enum-known-r returns returns-2)
+too-many-spec =
+    tie.close (tie.spec (found .0) (found .1) (found .2) returns returns-2)

@@ -9,30 +9,14 @@ use Rattle.packing.proofs.Wholes.{many-built, whole-of, whole-built, wh
 use Rattle.packing.proofs.write.Statement.{statement}
 use Rattle.packing.proofs.write.Tie as tie
 
-too-many-requires : tie.Need-too-many-requires
-too-many-requires c κs = search needs
+-- what `search` finds
+found : tie.Need-too-many-requires × tie.Need-slice-aggregate-build-all × tie.Need-slice-aggregate-build-all-2 × tie.Need-build-all-requires ×
+    tie.Need-built-requires × tie.Need-enum-known-n × tie.Need-array-share-prefix-ends × tie.Need-enum-known-r × tie.Need-same-length
+found = search needs
 
 returns : tie.Need-returns
 returns c =
     many-built (c .before .before .before .before .before .args .block .now) (c .before .before .before .before .before .args .numbers .now) _ _ (c .before .if1 .taken) (c .too-many .ensures)
-
-slice-aggregate-build-all : tie.Need-slice-aggregate-build-all
-slice-aggregate-build-all c = search needs
-
-slice-aggregate-build-all-2 : tie.Need-slice-aggregate-build-all-2
-slice-aggregate-build-all-2 c = search needs
-
-build-all-requires : tie.Need-build-all-requires
-build-all-requires c κs = search needs
-
-built-requires : tie.Need-built-requires
-built-requires c κs = search needs
-
-enum-known-n : tie.Need-enum-known-n
-enum-known-n c = search needs
-
-array-share-prefix-ends : tie.Need-array-share-prefix-ends
-array-share-prefix-ends c = search needs
 
 slice-aggregate-put-pack : tie.Need-slice-aggregate-put-pack
 slice-aggregate-put-pack c =
@@ -50,12 +34,6 @@ put-pack-requires : tie.Need-put-pack-requires
 put-pack-requires c κs =
     (whole-of (c .before .before .before .before .before .before .before .before .before .before .before .before .before .before .before .before .args .block .now) (c .before .before .before .before .before .before .before .before .before .before .before .before .before .before .before .before .args .numbers .now) (replicate 25600 0) (replicate 200 0) (record { for-steps = omega (arith, length-replicate {A = ℕ} 25600 0, c .before .before .before .before .before .before .before .before .before .before .before .before .if1 .left); for-ends = omega (arith, length-replicate {A = ℕ} 200 0, c .before .before .before .before .before .before .before .before .before .before .before .before .if1 .left) }) (c .before .before .before .before .before .before .before .before .before .before .before .before .if1 .left) _ _ _ _ _ (c .before .before .before .before .before .before .built .ensures) (c .before .before .before .before .n .given .1) (c .before .before .before .before .before .before .before .before .before .build-all .ensures) (search needs)) .packed
 
-enum-known-r : tie.Need-enum-known-r
-enum-known-r c = search needs
-
-same-length : tie.Need-same-length
-same-length c = search needs
-
 returns-2 : tie.Need-returns-2
 returns-2 c =
     whole-built (c .before .before .before .before .before .before .before .before .before .before .before .before .before .before .before .before .before .before .before .args .block .now) (c .before .before .before .before .before .before .before .before .before .before .before .before .before .before .before .before .before .before .before .args .numbers .now) (replicate 25600 0) (replicate 200 0) (record { for-steps = omega (arith, length-replicate {A = ℕ} 25600 0, c .before .before .before .before .before .before .before .before .before .before .before .before .before .before .before .if1 .left); for-ends = omega (arith, length-replicate {A = ℕ} 200 0, c .before .before .before .before .before .before .before .before .before .before .before .before .before .before .before .if1 .left) }) (c .before .before .before .before .before .before .before .before .before .before .before .before .before .before .before .if1 .left) _ _ _ (whole-of (c .before .before .before .before .before .before .before .before .before .before .before .before .before .before .before .before .before .before .before .args .block .now) (c .before .before .before .before .before .before .before .before .before .before .before .before .before .before .before .before .before .before .before .args .numbers .now) (replicate 25600 0) (replicate 200 0) (record { for-steps = omega (arith, length-replicate {A = ℕ} 25600 0, c .before .before .before .before .before .before .before .before .before .before .before .before .before .before .before .if1 .left); for-ends = omega (arith, length-replicate {A = ℕ} 200 0, c .before .before .before .before .before .before .before .before .before .before .before .before .before .before .before .if1 .left) }) (c .before .before .before .before .before .before .before .before .before .before .before .before .before .before .before .if1 .left) _ _ _ _ _ (c .before .before .before .before .before .before .before .before .before .built .ensures) (c .before .before .before .before .before .before .before .n .given .1) (c .before .before .before .before .before .before .before .before .before .before .before .before .build-all .ensures) (search needs)) _ _ _ (c .before .before .put-pack .ensures)
@@ -66,21 +44,5 @@ returns-3 c =
 
 pub write-spec : {M : Type 1} → statement M
 write-spec =
-    tie.close
-    (tie.spec
-    too-many-requires
-    returns
-    slice-aggregate-build-all
-    slice-aggregate-build-all-2
-    build-all-requires
-    built-requires
-    enum-known-n
-    array-share-prefix-ends
-    slice-aggregate-put-pack
-    array-share-prefix-steps
-    slice-aggregate-put-pack-2
-    put-pack-requires
-    enum-known-r
-    same-length
-    returns-2
-    returns-3)
+    tie.close (tie.spec (found .0) returns (found .1) (found .2) (found .3) (found .4) (found .5) (found .6) slice-aggregate-put-pack
+    array-share-prefix-steps slice-aggregate-put-pack-2 put-pack-requires (found .7) (found .8) returns-2 returns-3)

@@ -17,17 +17,10 @@ abbrev μ-loop : tie.MeasureT-loop
 loop-holds : tie.Need-loop-holds Inv-loop μ-loop
 loop-holds c = (omega arith, refl, λ j l. absurd (omega arith))
 
-wide-requires : tie.Need-wide-requires Inv-loop μ-loop
-wide-requires c κs = search needs
-
-mul-numbers : tie.Need-mul-numbers Inv-loop μ-loop
-mul-numbers c = search needs
-
-slice-write-numbers : tie.Need-slice-write-numbers Inv-loop μ-loop
-slice-write-numbers c = search needs
-
-add-i : tie.Need-add-i Inv-loop μ-loop
-add-i c = search needs
+-- what `search` finds
+found : tie.Need-wide-requires Inv-loop μ-loop × tie.Need-mul-numbers Inv-loop μ-loop × tie.Need-slice-write-numbers Inv-loop μ-loop ×
+    tie.Need-add-i Inv-loop μ-loop
+found = search needs
 
 loop-less : tie.Need-loop-less Inv-loop μ-loop
 loop-less c = omega (arith, length-set (c .before .before .loop .numbers) (c .before .before .loop .i) (c .wide .result))
@@ -43,16 +36,4 @@ returns c = record { number = λ j l. c .before .loop .inv .2 j (omega arith) }
 
 pub count-up-spec : {M : Type 1} → statement M
 count-up-spec =
-    tie.close
-    (tie.spec
-    Inv-loop
-    μ-loop
-    loop-holds
-    wide-requires
-    mul-numbers
-    slice-write-numbers
-    add-i
-    loop-less
-    loop-again
-    same-length
-    returns)
+    tie.close (tie.spec Inv-loop μ-loop loop-holds (found .0) (found .1) (found .2) (found .3) loop-less loop-again same-length returns)

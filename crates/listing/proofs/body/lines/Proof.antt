@@ -10,52 +10,21 @@ use Rattle.listing.proofs.Telling.{lines-ready, lines-told, lines-never
 use Rattle.listing.proofs.body.lines.Statement.{statement}
 use Rattle.listing.proofs.body.lines.Tie as tie
 
-slice-aggregate-count-up : tie.Need-slice-aggregate-count-up
-slice-aggregate-count-up c = search needs
+-- what `search` finds, up to the call of `build_all`, and after it
+found : tie.Need-slice-aggregate-count-up × tie.Need-count-up-requires × tie.Need-shown-of-requires × tie.Need-array-share-prefix-numbers ×
+    tie.Need-slice-aggregate-build-all-2 × tie.Need-slice-aggregate-build-all-3 × tie.Need-build-all-requires × tie.Need-built-requires
+found = (λ c. search needs, λ c κs. search needs, λ c κs. search needs, λ c. search needs, λ c. search needs, λ c. search needs, λ c κs. search needs, λ c κs. search needs)
 
-count-up-requires : tie.Need-count-up-requires
-count-up-requires c κs = search needs
-
-shown-of-requires : tie.Need-shown-of-requires
-shown-of-requires c κs = search needs
-
-array-share-prefix-numbers : tie.Need-array-share-prefix-numbers
-array-share-prefix-numbers c = search needs
+after : tie.Need-enum-told × tie.Need-slice-aggregate-lines-of × tie.Need-slice-aggregate-lines-of-2 × tie.Need-enum-told-2 × tie.Need-same-length
+after = (λ c. search needs, λ c. search needs, λ c. search needs, λ c. search needs, λ c. search needs)
 
 slice-aggregate-build-all : tie.Need-slice-aggregate-build-all
 slice-aggregate-build-all c =
     sym (length-take-le _ _ (omega (arith, c .before .shown-of .ensures, min-le-right (c .before .before .before .before .before .before .before .args .count) 1000)))
 
-slice-aggregate-build-all-2 : tie.Need-slice-aggregate-build-all-2
-slice-aggregate-build-all-2 c = search needs
-
-slice-aggregate-build-all-3 : tie.Need-slice-aggregate-build-all-3
-slice-aggregate-build-all-3 c = search needs
-
-build-all-requires : tie.Need-build-all-requires
-build-all-requires c κs = search needs
-
-built-requires : tie.Need-built-requires
-built-requires c κs = search needs
-
-enum-told : tie.Need-enum-told
-enum-told c = search needs
-
-slice-aggregate-lines-of : tie.Need-slice-aggregate-lines-of
-slice-aggregate-lines-of c = search needs
-
-slice-aggregate-lines-of-2 : tie.Need-slice-aggregate-lines-of-2
-slice-aggregate-lines-of-2 c = search needs
-
 lines-of-requires : tie.Need-lines-of-requires
 lines-of-requires c κs =
     lines-ready _ _ (c .before .before .before .before .before .before .before .before .before .before .before .before .before .before .before .before .before .before .pre .counted) _ (c .before .before .before .before .before .before .before .before .before .before .before .before .before .before .count-up .ensures) (omega arith) _ (c .before .before .before .before .before .before .before .before .before .before .before .before .shown-of .ensures) (replicate 128000 0) (replicate 1000 0) (length-replicate {A = ℕ} 128000 0) (length-replicate {A = ℕ} 1000 0) _ _ _ _ (c .before .before .before .before .before .built .ensures) (c .before .before .before .before .before .before .before .before .build-all .ensures) _ _ (omega arith) (c .before .before .before .before .before .before .before .before .before .before .before .before .before .before .before .before .before .before .pre .room)
-
-enum-told-2 : tie.Need-enum-told-2
-enum-told-2 c = search needs
-
-same-length : tie.Need-same-length
-same-length c = search needs
 
 returns : tie.Need-returns
 returns c =
@@ -67,22 +36,5 @@ returns-2 c =
 
 pub lines-spec : {M : Type 1} → statement M
 lines-spec =
-    tie.close
-    (tie.spec
-    slice-aggregate-count-up
-    count-up-requires
-    shown-of-requires
-    array-share-prefix-numbers
-    slice-aggregate-build-all
-    slice-aggregate-build-all-2
-    slice-aggregate-build-all-3
-    build-all-requires
-    built-requires
-    enum-told
-    slice-aggregate-lines-of
-    slice-aggregate-lines-of-2
-    lines-of-requires
-    enum-told-2
-    same-length
-    returns
-    returns-2)
+    tie.close (tie.spec (found .0) (found .1) (found .2) (found .3) slice-aggregate-build-all (found .4) (found .5) (found .6) (found .7) (after .0)
+    (after .1) (after .2) lines-of-requires (after .3) (after .4) returns returns-2)

@@ -15,14 +15,13 @@ abbrev μ-loop : tie.MeasureT-loop
 loop-holds : tie.Need-loop-holds Inv-loop μ-loop
 loop-holds c = (omega arith, printed-none _ _ _ _ (omega (arith, c .before .before .before .pre .room)))
 
-mul-end : tie.Need-mul-end Inv-loop μ-loop
-mul-end c = search needs
+-- what `search` finds
+found : tie.Need-mul-end Inv-loop μ-loop × tie.Need-wide-requires Inv-loop μ-loop × tie.Need-add-i Inv-loop μ-loop ×
+    tie.Need-loop-less Inv-loop μ-loop
+found = search needs
 
 shared-slice-read-end : tie.Need-shared-slice-read-end Inv-loop μ-loop
 shared-slice-read-end c = omega (arith, c .before .before .before .before .before .before .pre .cut .ended)
-
-wide-requires : tie.Need-wide-requires Inv-loop μ-loop
-wide-requires c κs = search needs
 
 sub-line : tie.Need-sub-line Inv-loop μ-loop
 sub-line c = printed-part _ _ _ _ _ (c .before .before .before .before .before .before .before .pre) _ _ _ _ (c .before .before .before .loop .inv .1) (c .before .before .loop-test .taken) .0
@@ -36,12 +35,6 @@ part-line-end c = let h = printed-part _ _ _ _ _ (c .before .before .before .bef
 line-requires : tie.Need-line-requires Inv-loop μ-loop
 line-requires c κs = printed-room _ _ _ _ _ (c .before .before .before .before .before .before .before .before .before .pre) _ _ _ _ (c .before .before .before .before .before .loop .inv .1) (c .before .before .before .before .loop-test .taken)
 
-add-i : tie.Need-add-i Inv-loop μ-loop
-add-i c = search needs
-
-loop-less : tie.Need-loop-less Inv-loop μ-loop
-loop-less c = search needs
-
 loop-again : tie.Need-loop-again Inv-loop μ-loop
 loop-again c = (search needs, printed-next _ _ _ _ _ (c .before .before .before .before .before .before .before .before .before .before .before .before .pre) _ _ _ _ (c .before .before .before .before .before .before .before .before .loop .inv .1) (c .before .before .before .before .before .before .before .loop-test .taken) _ _ _ (c .before .before .before .before .before .wide .ensures) (c .before .before .line .ensures))
 
@@ -53,20 +46,5 @@ returns c = printed-all _ _ _ _ _ _ _ _ _ (omega (arith, c .loop-test .left)) (c
 
 pub lines-of-spec : {M : Type 1} → statement M
 lines-of-spec =
-    tie.close
-    (tie.spec
-    Inv-loop
-    μ-loop
-    loop-holds
-    mul-end
-    shared-slice-read-end
-    wide-requires
-    sub-line
-    part-line-start
-    part-line-end
-    line-requires
-    add-i
-    loop-less
-    loop-again
-    same-length
-    returns)
+    tie.close (tie.spec Inv-loop μ-loop loop-holds (found .0) shared-slice-read-end (found .1) sub-line part-line-start part-line-end line-requires
+    (found .2) (found .3) loop-again same-length returns)

@@ -7,31 +7,16 @@ use borrow.Author.Needs.{needs}
 use Rattle.listing.proofs.pieces.decimal.Statement.{statement}
 use Rattle.listing.proofs.pieces.decimal.Tie as tie
 
-decimal-requires : tie.Need-decimal-requires
-decimal-requires c κs = search needs
-
-array-share-prefix-digits : tie.Need-array-share-prefix-digits
-array-share-prefix-digits c = search needs
-
-slice-aggregate-append : tie.Need-slice-aggregate-append
-slice-aggregate-append c = search needs
+-- what `search` finds
+found : tie.Need-decimal-requires × tie.Need-array-share-prefix-digits × tie.Need-slice-aggregate-append × tie.Need-same-length
+found = search needs
 
 append-requires : tie.Need-append-requires
 append-requires c κs = omega (arith, c .before .before .decimal .ensures .0 .1, fewest-most (c .before .before .before .before .before .args .n) (c .before .before .decimal .result) (omega (arith, c .before .before .before .before .before .fits)) (c .before .before .decimal .ensures .1 .0), c .before .before .before .before .before .pre)
-
-same-length : tie.Need-same-length
-same-length c = search needs
 
 returns : tie.Need-returns
 returns c = appended-as (c .before .before .before .before .before .decimal .ensures .1 .1 ∙ decimal-is (c .before .before .before .before .before .before .before .before .args .n) (c .before .before .before .before .before .decimal .result) (c .before .before .before .before .before .decimal .ensures .1 .0) (fewest-most (c .before .before .before .before .before .before .before .before .args .n) (c .before .before .before .before .before .decimal .result) (omega (arith, c .before .before .before .before .before .before .before .before .fits)) (c .before .before .before .before .before .decimal .ensures .1 .0))) (c .before .before .append .ensures)
 
 pub decimal-spec : {M : Type 1} → statement M
 decimal-spec =
-    tie.close
-    (tie.spec
-    decimal-requires
-    array-share-prefix-digits
-    slice-aggregate-append
-    append-requires
-    same-length
-    returns)
+    tie.close (tie.spec (found .0) (found .1) (found .2) append-requires (found .3) returns)

@@ -10,26 +10,11 @@ use borrow.Author.Needs.{needs}
 use Rattle.listing.proofs.pieces.header.Statement.{statement}
 use Rattle.listing.proofs.pieces.header.Tie as tie
 
-slice-aggregate-field : tie.Need-slice-aggregate-field
-slice-aggregate-field c = search needs
-
-shared-slice-read-wide : tie.Need-shared-slice-read-wide
-shared-slice-read-wide c = search needs
-
-wide-requires : tie.Need-wide-requires
-wide-requires c κs = search needs
-
-field-requires : tie.Need-field-requires
-field-requires c κs = search needs
-
-slice-aggregate-field-2 : tie.Need-slice-aggregate-field-2
-slice-aggregate-field-2 c = search needs
-
-shared-slice-read-wide-2 : tie.Need-shared-slice-read-wide-2
-shared-slice-read-wide-2 c = search needs
-
-wide-requires-2 : tie.Need-wide-requires-2
-wide-requires-2 c κs = search needs
+-- what `search` finds
+found : tie.Need-slice-aggregate-field × tie.Need-shared-slice-read-wide × tie.Need-wide-requires × tie.Need-field-requires ×
+    tie.Need-slice-aggregate-field-2 × tie.Need-shared-slice-read-wide-2 × tie.Need-wide-requires-2 × tie.Need-slice-aggregate-append ×
+    tie.Need-shared-slice-read-signed-byte × tie.Need-slice-aggregate-field-3 × tie.Need-slice-aggregate-append-2 × tie.Need-same-length
+found = search needs
 
 -- each piece leaves room for those behind it
 family-room : (c : tie.After-field) → c .field .result + 173 ≤ length (c .field .last .1 .1 .0)
@@ -50,55 +35,22 @@ count-room c = omega (arith, m-room (c .before .before .before .before .before),
 field-requires-2 : tie.Need-field-requires-2
 field-requires-2 c κs = omega (arith, family-room (c .before .before .before .before .before .before))
 
-slice-aggregate-append : tie.Need-slice-aggregate-append
-slice-aggregate-append c = search needs
-
 append-requires : tie.Need-append-requires
 append-requires c κs = omega (arith, end-room (c .before .before .before .before))
-
-shared-slice-read-signed-byte : tie.Need-shared-slice-read-signed-byte
-shared-slice-read-signed-byte c = search needs
 
 signed-byte-requires : tie.Need-signed-byte-requires
 signed-byte-requires c κs = omega (arith, space-room (c .before .before .before .before))
 
-slice-aggregate-field-3 : tie.Need-slice-aggregate-field-3
-slice-aggregate-field-3 c = search needs
-
 field-requires-3 : tie.Need-field-requires-3
 field-requires-3 c κs = omega (arith, m-room (c .before .before .before .before))
 
-slice-aggregate-append-2 : tie.Need-slice-aggregate-append-2
-slice-aggregate-append-2 c = search needs
-
 append-requires-2 : tie.Need-append-requires-2
 append-requires-2 c κs = omega (arith, count-room (c .before .before .before .before))
-
-same-length : tie.Need-same-length
-same-length c = search needs
 
 returns : tie.Need-returns
 returns c = header-of _ _ _ _ (c .before .before .before .before .before .before .before .before .before .before .before .before .before .before .before .before .before .before .before .before .before .before .before .before .before .before .before .before .before .before .before .wide .ensures) (c .before .before .before .before .before .before .before .before .before .before .before .before .before .before .before .before .before .before .before .before .before .before .before .before .wide2 .ensures) (c .before .before .before .before .before .before .before .before .before .before .before .before .before .before .before .before .before .before .before .before .before .before .before .before .before .before .before .before .before .field .ensures) (c .before .before .before .before .before .before .before .before .before .before .before .before .before .before .before .before .before .before .before .before .before .before .field2 .ensures) (c .before .before .before .before .before .before .before .before .before .before .before .before .before .before .before .before .before .append .ensures) (c .before .before .before .before .before .before .before .before .before .before .before .before .signed-byte .ensures) (c .before .before .before .before .before .before .before .field3 .ensures) (c .before .before .append2 .ensures)
 
 pub header-spec : {M : Type 1} → statement M
 header-spec =
-    tie.close
-    (tie.spec
-    slice-aggregate-field
-    shared-slice-read-wide
-    wide-requires
-    field-requires
-    slice-aggregate-field-2
-    shared-slice-read-wide-2
-    wide-requires-2
-    field-requires-2
-    slice-aggregate-append
-    append-requires
-    shared-slice-read-signed-byte
-    signed-byte-requires
-    slice-aggregate-field-3
-    field-requires-3
-    slice-aggregate-append-2
-    append-requires-2
-    same-length
-    returns)
+    tie.close (tie.spec (found .0) (found .1) (found .2) (found .3) (found .4) (found .5) (found .6) field-requires-2 (found .7) append-requires
+    (found .8) signed-byte-requires (found .9) field-requires-3 (found .10) append-requires-2 (found .11) returns)

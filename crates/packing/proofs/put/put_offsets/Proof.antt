@@ -19,17 +19,10 @@ abbrev μ-loop : tie.MeasureT-loop
 loop-holds : tie.Need-loop-holds Inv-loop μ-loop
 loop-holds c = (omega arith, refl, offsets-none (c .before .before .args .out .now) (c .before .before .args .ends .now) (c .before .before .args .first))
 
-mul-put-two : tie.Need-mul-put-two Inv-loop μ-loop
-mul-put-two c = search needs
-
-add-put-two : tie.Need-add-put-two Inv-loop μ-loop
-add-put-two c = search needs
-
-mul-put-two-2 : tie.Need-mul-put-two-2 Inv-loop μ-loop
-mul-put-two-2 c = search needs
-
-shared-slice-read-put-two : tie.Need-shared-slice-read-put-two Inv-loop μ-loop
-shared-slice-read-put-two c = search needs
+-- what `search` finds
+found : tie.Need-mul-put-two Inv-loop μ-loop × tie.Need-add-put-two Inv-loop μ-loop × tie.Need-mul-put-two-2 Inv-loop μ-loop ×
+    tie.Need-shared-slice-read-put-two Inv-loop μ-loop × tie.Need-add-i Inv-loop μ-loop × tie.Need-same-length Inv-loop μ-loop
+found = search needs
 
 add-put-two-2 : tie.Need-add-put-two-2 Inv-loop μ-loop
 add-put-two-2 c = omega (arith, c .before .before .before .before .before .before .pre .low, c .before .before .before .before .before .before .pre .within (c .before .before .before .loop .i) (c .before .before .loop-test .taken))
@@ -37,36 +30,16 @@ add-put-two-2 c = omega (arith, c .before .before .before .before .before .befor
 put-two-requires : tie.Need-put-two-requires Inv-loop μ-loop
 put-two-requires c κs = (omega (arith, c .before .before .before .before .before .before .pre .room, c .before .before .before .loop .inv .1), omega (arith, c .before .before .before .before .before .before .pre .low, c .before .before .before .before .before .before .pre .within (c .before .before .before .loop .i) (c .before .before .loop-test .taken)))
 
-add-i : tie.Need-add-i Inv-loop μ-loop
-add-i c = search needs
-
 loop-less : tie.Need-loop-less Inv-loop μ-loop
 loop-less c = omega arith
 
 loop-again : tie.Need-loop-again Inv-loop μ-loop
 loop-again c = (omega arith, c .before .before .put-two .kept .0 ∙ c .before .before .before .before .before .before .loop .inv .1, offsets-next (c .before .before .before .before .before .before .before .before .before .args .out .now) (c .before .before .before .before .before .before .before .before .before .args .ends .now) (c .before .before .before .before .before .before .before .before .before .args .first) (c .before .before .before .before .before .before .loop .i) _ _ (c .before .before .before .before .before .loop-test .taken) (omega (arith, c .before .before .before .before .before .before .before .before .before .pre .room)) (c .before .before .before .before .before .before .loop .inv .2) (c .before .before .put-two .ensures))
 
-same-length : tie.Need-same-length Inv-loop μ-loop
-same-length c = search needs
-
 returns : tie.Need-returns Inv-loop μ-loop
 returns c = c .before .loop .inv .2 ∙ offsets-all (c .before .before .before .before .args .out .now) (c .before .before .before .before .args .ends .now) (c .before .before .before .before .args .first) (c .before .loop .i) (omega arith)
 
 pub put-offsets-spec : {M : Type 1} → statement M
 put-offsets-spec =
-    tie.close
-    (tie.spec
-    Inv-loop
-    μ-loop
-    loop-holds
-    mul-put-two
-    add-put-two
-    mul-put-two-2
-    shared-slice-read-put-two
-    add-put-two-2
-    put-two-requires
-    add-i
-    loop-less
-    loop-again
-    same-length
-    returns)
+    tie.close (tie.spec Inv-loop μ-loop loop-holds (found .0) (found .1) (found .2) (found .3) add-put-two-2 put-two-requires (found .4) loop-less
+    loop-again (found .5) returns)
