@@ -50,6 +50,10 @@ pub record One (b : List ℕ) (n l : ℕ) (s : List ℕ) : Type 0 where
   pub fits : l ≤ length s
   pub edge : edgeAnswer b n ≡ accepted (take l s)
 
+pub one-put : {b : List ℕ} {n l : ℕ} {s : List ℕ} → One b n l s → (out after : List ℕ) (y : Built) → BuiltAs (written (accepted (take l s)) out) y after
+    → BuiltAs (buildAnswer b n out) y after
+one-put {b} {n} o out after y h = rw (build-of b n out, o .edge) h
+
 module _ (b : List ℕ) (n : ℕ) (steps ends : List ℕ) (room : 128 ≤ length steps) (place : 1 ≤ length ends) where
   has : Room (length (n ∷ [])) (length steps) (length ends)
   has = record { for-steps = omega arith; for-ends = omega arith }
@@ -71,10 +75,6 @@ module _ (b : List ℕ) (n : ℕ) (steps ends : List ℕ) (room : 128 ≤ length
             edge = q ∙ ap accepted (sym (ap (take l) (v .bytes) ∙ take-at (e ++ []) (drop (length (e ++ [])) steps) l (sym long) ∙ whole));
           }
       go (refused x) q v = absurd (value-not (v .says))
-
-  pub one-put : (v : Wrote) (x : Built) (l : ℕ) (s t : List ℕ) → x ≡ builtOf v → x ≡ Length l → WroteAs (lines (edgesAnswer b (n ∷ [])) (n ∷ []) steps ends) v s t
-      → (out after : List ℕ) (y : Built) → BuiltAs (written (accepted (take l s)) out) y after → BuiltAs (buildAnswer b n out) y after
-  one-put v x l s t q e w out after y h = rw (build-of b n out, one-built v x l s t q e w .edge) h
 
   pub one-refused : (v : Wrote) (x : Built) (r : ℕ) (s t out : List ℕ) → x ≡ builtOf v → x ≡ Refused r → WroteAs (lines (edgesAnswer b (n ∷ [])) (n ∷ []) steps ends) v s t
       → BuiltAs (buildAnswer b n out) (Refused r) out

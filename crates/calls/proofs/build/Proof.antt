@@ -1,11 +1,11 @@
 -- `calls::build` meets its contract: the edge of a list of one, in the output itself or put to it. Assumes nothing.
 use mathlib.Core.Path.{sym}
-use Prim.Native.Nat.{ℕ}
+use Prim.Native.Nat.{ℕ, _≤_}
 use native.Mathlib.Omega.{arith}
-use lib.ListN.{replicate, length-replicate}
+use lib.ListN.{length, replicate, length-replicate}
 use lib.Seq.{length-take-le}
 use borrow.Author.Needs.{needs}
-use Rattle.calls.proofs.Ones.{one-built, one-put, one-refused, one-whole}
+use Rattle.calls.proofs.Ones.{One, one-built, one-put, one-refused, one-whole}
 use Rattle.calls.proofs.build.Statement.{statement}
 use Rattle.calls.proofs.build.Tie as tie
 
@@ -16,25 +16,42 @@ found : tie.Need-slice-aggregate-build-all × tie.Need-slice-aggregate-build-all
     tie.Need-same-length-2
 found = search needs
 
+-- the array for the edge, and the one for its end
+steps-long : 128 ≤ length (replicate {A = ℕ} 128 0)
+steps-long = omega (arith, length-replicate {A = ℕ} 128 0)
+
+ends-long : 1 ≤ length (replicate {A = ℕ} 1 0)
+ends-long = omega (arith, length-replicate {A = ℕ} 1 0)
+
+-- the edge that was built
+one : (c : tie.After-known-told) →
+    let args = c .before .before .before .before .before .before .before .before .before .before .before .before .before .args in
+    One (args .block .now) (args .number) (c .before .n .given .0 .0) (c .before .before .before .before .before .before .build-all2 .last .1 .1 .0)
+one c =
+    let args = c .before .before .before .before .before .before .before .before .before .before .before .before .before .args in
+    one-built (args .block .now) (args .number) (replicate 128 0) (replicate 1 0) steps-long ends-long _ _ _ _ _
+    (c .before .before .before .built2 .ensures) (c .before .n .given .1) (c .before .before .before .before .before .before .build-all2 .ensures)
+
 returns : tie.Need-returns
 returns c =
-    one-whole (c .before .before .before .before .before .before .before .before .before .before .before .args .block .now) (c .before .before .before .before .before .before .before .before .before .before .before .args .number) (c .before .before .before .before .before .before .before .before .before .before .before .args .out .now) (replicate 1 0) (c .before .before .before .before .before .before .before .before .if1 .taken) (omega (arith, length-replicate {A = ℕ} 1 0)) _ _ _ _ (c .built .ensures) (search needs) (c .before .before .before .before .build-all .ensures)
+    let args = c .before .before .before .before .before .before .before .before .before .before .before .args in
+    one-whole (args .block .now) (args .number) (args .out .now) (replicate 1 0) (c .before .before .before .before .before .before .before .before .if1 .taken) ends-long _ _ _ _
+    (c .built .ensures) (search needs) (c .before .before .before .before .build-all .ensures)
 
 array-share-prefix-steps : tie.Need-array-share-prefix-steps
-array-share-prefix-steps c =
-    one-built (c .before .before .before .before .before .before .before .before .before .before .before .before .before .args .block .now) (c .before .before .before .before .before .before .before .before .before .before .before .before .before .args .number) (replicate 128 0) (replicate 1 0) (omega (arith, length-replicate {A = ℕ} 128 0)) (omega (arith, length-replicate {A = ℕ} 1 0)) _ _ _ _ _ (c .before .before .before .built2 .ensures) (c .before .n .given .1) (c .before .before .before .before .before .before .build-all2 .ensures) .fits
+array-share-prefix-steps c = one c .fits
 
 slice-aggregate-put : tie.Need-slice-aggregate-put
-slice-aggregate-put c =
-    sym (length-take-le _ _ (one-built (c .before .before .before .before .before .before .before .before .before .before .before .before .before .before .args .block .now) (c .before .before .before .before .before .before .before .before .before .before .before .before .before .before .args .number) (replicate 128 0) (replicate 1 0) (omega (arith, length-replicate {A = ℕ} 128 0)) (omega (arith, length-replicate {A = ℕ} 1 0)) _ _ _ _ _ (c .before .before .before .before .built2 .ensures) (c .before .before .n .given .1) (c .before .before .before .before .before .before .before .build-all2 .ensures) .fits))
+slice-aggregate-put c = sym (length-take-le _ _ (one (c .before) .fits))
 
 returns-2 : tie.Need-returns-2
-returns-2 c =
-    one-put (c .before .before .before .before .before .before .before .before .before .before .before .before .before .before .before .before .before .before .args .block .now) (c .before .before .before .before .before .before .before .before .before .before .before .before .before .before .before .before .before .before .args .number) (replicate 128 0) (replicate 1 0) (omega (arith, length-replicate {A = ℕ} 128 0)) (omega (arith, length-replicate {A = ℕ} 1 0)) _ _ _ _ _ (c .before .before .before .before .before .before .before .before .built2 .ensures) (c .before .before .before .before .before .before .n .given .1) (c .before .before .before .before .before .before .before .before .before .before .before .build-all2 .ensures) _ _ _ (c .before .before .put .ensures)
+returns-2 c = one-put (one (c .before .before .before .before .before)) _ _ _ (c .before .before .put .ensures)
 
 returns-3 : tie.Need-returns-3
 returns-3 c =
-    one-refused (c .before .before .before .before .before .before .before .before .before .before .before .before .before .args .block .now) (c .before .before .before .before .before .before .before .before .before .before .before .before .before .args .number) (replicate 128 0) (replicate 1 0) (omega (arith, length-replicate {A = ℕ} 128 0)) (omega (arith, length-replicate {A = ℕ} 1 0)) _ _ _ _ _ _ (c .before .before .before .built2 .ensures) (c .before .r .given .1) (c .before .before .before .before .before .before .build-all2 .ensures)
+    let args = c .before .before .before .before .before .before .before .before .before .before .before .before .before .args in
+    one-refused (args .block .now) (args .number) (replicate 128 0) (replicate 1 0) steps-long ends-long _ _ _ _ _ _
+    (c .before .before .before .built2 .ensures) (c .before .r .given .1) (c .before .before .before .before .before .before .build-all2 .ensures)
 
 pub build-spec : {M : Type 1} → statement M
 build-spec =
