@@ -85,8 +85,11 @@ module _ (t : ℕ) where
     odd : over .before .loop .sum + over .before .loop .sum + c .part-count3 .result * c .part-count3 .result ≡ C (start over .args .n)
     odd = odd-is (start over .args .n) (start over .args .n / 2) (over .before .loop .sum) (some (over .before .before)) refl (whole over) (c .part-count3 .result) (c .before .before .if2 .left) (c .part-count3 .ensures .0)
 
-  count-memo-element-write-memo : Memo count-memo-lts.Need-element-write-memo
-  count-memo-element-write-memo c = omega arith
+  -- the indices and sizes that `omega` sees
+  count-memo-sizes : Memo count-memo-lts.Need-element-write-memo × Memo count-memo-lts.Need-sub-i × Memo count-memo-lts.Need-sub-part-count ×
+      Memo count-memo-lts.Need-sub-part-count-2 × Memo count-memo-lts.Need-loop-less × Memo count-memo-lts.Need-mul-memo ×
+      Memo count-memo-lts.Need-element-write-memo-2 × Memo count-memo-lts.Need-mul-memo-2 × Memo count-memo-lts.Need-element-write-memo-3
+  count-memo-sizes = (λ c. omega arith, λ c. omega arith, λ c. omega arith, λ c. omega arith, λ c. omega arith, λ c. omega arith, λ c. omega arith, λ c. omega arith, λ c. omega arith)
 
   count-memo-returns : Memo count-memo-lts.Need-returns
   count-memo-returns c =
@@ -96,20 +99,11 @@ module _ (t : ℕ) where
   count-memo-loop-holds : Memo count-memo-lts.Need-loop-holds
   count-memo-loop-holds c = (omega arith, c .before .pre .1 .1, kept-same _, omega arith)
 
-  count-memo-sub-i : Memo count-memo-lts.Need-sub-i
-  count-memo-sub-i c = omega arith
-
   count-memo-part-count-requires : Memo count-memo-lts.Need-part-count-requires
   count-memo-part-count-requires c κs =
       let pre = c .before .before .before .before .pre in
       let less = half-back _ _ (some (c .before .before .before)) (c .before .before .loop .inv .0) in
       (falls-less _ _ _ (pre .0) less, (le-trans (le-of-lt less) (pre .1 .0), c .before .before .loop .inv .1))
-
-  count-memo-sub-part-count : Memo count-memo-lts.Need-sub-part-count
-  count-memo-sub-part-count c = omega arith
-
-  count-memo-sub-part-count-2 : Memo count-memo-lts.Need-sub-part-count-2
-  count-memo-sub-part-count-2 c = omega arith
 
   count-memo-part-count-requires-2 : Memo count-memo-lts.Need-part-count-requires-2
   count-memo-part-count-requires-2 c κs =
@@ -122,9 +116,6 @@ module _ (t : ℕ) where
   count-memo-add-sum : Memo count-memo-lts.Need-add-sum
   count-memo-add-sum c = record { fits = next-fits c }
 
-  count-memo-loop-less : Memo count-memo-lts.Need-loop-less
-  count-memo-loop-less c = omega arith
-
   count-memo-loop-again : Memo count-memo-lts.Need-loop-again
   count-memo-loop-again c =
       let inv = turn c .loop .inv in
@@ -132,12 +123,6 @@ module _ (t : ℕ) where
 
   count-memo-add-twice : Memo count-memo-lts.Need-add-twice
   count-memo-add-twice c = record { fits = twice-fits (start c .args .n) (start c .args .n / 2) (c .before .loop .sum) (some (c .before .before)) refl (whole c) (start c .pre .1 .0) }
-
-  count-memo-mul-memo : Memo count-memo-lts.Need-mul-memo
-  count-memo-mul-memo c = omega arith
-
-  count-memo-element-write-memo-2 : Memo count-memo-lts.Need-element-write-memo-2
-  count-memo-element-write-memo-2 c = omega arith
 
   count-memo-returns-2 : Memo count-memo-lts.Need-returns-2
   count-memo-returns-2 c =
@@ -157,12 +142,6 @@ module _ (t : ℕ) where
   count-memo-add-c : Memo count-memo-lts.Need-add-c
   count-memo-add-c c = record { fits = sum-parts _ _ _ (odd c) (fits _ (start (over c) .pre .1 .0)) .1 }
 
-  count-memo-mul-memo-2 : Memo count-memo-lts.Need-mul-memo-2
-  count-memo-mul-memo-2 c = omega arith
-
-  count-memo-element-write-memo-3 : Memo count-memo-lts.Need-element-write-memo-3
-  count-memo-element-write-memo-3 c = omega arith
-
   count-memo-returns-3 : Memo count-memo-lts.Need-returns-3
   count-memo-returns-3 c =
       let n = start (over c) .args .n in
@@ -171,12 +150,11 @@ module _ (t : ℕ) where
 
   count-memo-met : {M : Type 1} → count-memo-lts.Closed parts (count-memo-at t) count-memo.Post M
   count-memo-met =
-      count-memo-lts.spec parts (count-memo-at t) count-memo.Post count-memo-Inv-loop count-memo-μ-loop
-      count-memo-element-write-memo count-memo-returns count-memo-loop-holds count-memo-sub-i count-memo-part-count-requires
-      count-memo-sub-part-count count-memo-sub-part-count-2 count-memo-part-count-requires-2 count-memo-mul-sum count-memo-add-sum
-      count-memo-loop-less count-memo-loop-again count-memo-add-twice count-memo-mul-memo count-memo-element-write-memo-2
-      count-memo-returns-2 count-memo-part-count-requires-3 count-memo-mul-c count-memo-add-c count-memo-mul-memo-2
-      count-memo-element-write-memo-3 count-memo-returns-3
+      count-memo-lts.spec parts (count-memo-at t) count-memo.Post count-memo-Inv-loop count-memo-μ-loop (count-memo-sizes .0) count-memo-returns
+      count-memo-loop-holds (count-memo-sizes .1) count-memo-part-count-requires (count-memo-sizes .2) (count-memo-sizes .3)
+      count-memo-part-count-requires-2 count-memo-mul-sum count-memo-add-sum (count-memo-sizes .4) count-memo-loop-again count-memo-add-twice
+      (count-memo-sizes .5) (count-memo-sizes .6) count-memo-returns-2 count-memo-part-count-requires-3 count-memo-mul-c count-memo-add-c
+      (count-memo-sizes .7) (count-memo-sizes .8) count-memo-returns-3
 
   -- what `part_count` calls
   abbrev all : part-count-lts.Claims

@@ -1,9 +1,10 @@
 -- `refusals::refusal_of` meets its contract: each return by the tests that led there. Assumes nothing.
-use mathlib.Core.Path.{sym, ap, _∙_}
+use mathlib.Core.Path.{_≡_, sym, ap, _∙_}
+use mathlib.Core.Bool.{true}
 use native.Mathlib.Omega.{arith}
 use borrow.Author.Needs.{needs}
 use borrow.Author.Tests.{not-true, not-false}
-use Rattle.rules.specs.Packs.{blockIn}
+use Rattle.rules.specs.Packs.{blockIn, laid}
 use Rattle.job.specs.Replies.{countSays}
 use Rattle.calls.proofs.Fitting.{known-of}
 use Rattle.pack.proofs.Layouts.{laid-of}
@@ -20,21 +21,24 @@ returns : tie.Need-returns
 returns c =
     read-bad (c .before .before .before .args .pack .now) (sym (c .before .is-laid .ensures) ∙ not-true _ (c .if1 .taken))
 
+-- the layout is kept
+is-laid : (c : tie.Else1) → laid (c .before .before .before .args .pack .now) ≡ true
+is-laid c = sym (c .before .is-laid .ensures) ∙ not-false _ (c .if1 .left)
+
 part-block-end : tie.Need-part-block-end
-part-block-end c =
-    let h = laid-of (c .before .before .before .args .pack .now) (sym (c .before .is-laid .ensures) ∙ not-false _ (c .if1 .left)) in omega (arith, h .least)
+part-block-end c = let h = laid-of _ (is-laid c) in omega (arith, h .least)
 
 edges-refusal-requires : tie.Need-edges-refusal-requires
-edges-refusal-requires c κs =
-    laid-of (c .before .before .before .before .before .before .before .args .pack .now) (sym (c .before .before .before .before .before .is-laid .ensures) ∙ not-false _ (c .before .before .before .before .if1 .left))
+edges-refusal-requires c κs = laid-of _ (is-laid (c .before .before .before .before))
 
 returns-2 : tie.Need-returns-2
 returns-2 c =
-    read-told (c .before .before .before .before .before .before .before .before .args .pack .now) (sym (c .before .before .before .before .before .before .is-laid .ensures) ∙ not-false _ (c .before .before .before .before .before .if1 .left)) _ (sym (ap countSays (c .before .r .given .1)) ∙ c .before .before .before .count .ensures)
+    read-told _ (is-laid (c .before .before .before .before .before)) _ (sym (ap countSays (c .before .r .given .1)) ∙ c .before .before .before .count .ensures)
 
 returns-3 : tie.Need-returns-3
 returns-3 c =
-    read-edges (c .before .before .before .before .before .before .before .before .args .pack .now) (sym (c .before .before .before .before .before .before .is-laid .ensures) ∙ not-false _ (c .before .before .before .before .before .if1 .left)) (known-of (blockIn (c .before .before .before .before .before .before .before .before .args .pack .now)) _ (sym (ap countSays (c .before .enum-told .given .1)) ∙ c .before .before .before .count .ensures)) _ (c .edges-refusal .ensures)
+    let known = known-of (blockIn (c .before .before .before .before .before .before .before .before .args .pack .now)) _ (sym (ap countSays (c .before .enum-told .given .1)) ∙ c .before .before .before .count .ensures) in
+    read-edges _ (is-laid (c .before .before .before .before .before)) known _ (c .edges-refusal .ensures)
 
 pub refusal-of-spec : {M : Type 1} → statement M
 refusal-of-spec =
