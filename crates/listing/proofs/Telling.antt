@@ -2,7 +2,7 @@
 --
 --   count-of, counted       an accepted count, from its reply; the job that has it
 --   block-long              a block with a count has 20 bytes
---   lines-ready, lines-told    the edges of the numbers from 0 up, and their lines; lines-never: they aren't refused
+--   Listed, listed          the edges of the numbers from 0 up, lined up to be printed
 --   listing-is, listing-refused    the listing of an accepted and of a refused block
 use mathlib.Core.Path.{_≡_, refl, sym, ap, ap₂, _∙_, subst}
 use mathlib.Core.Bool.{Bool}
@@ -91,6 +91,12 @@ module _ (b : List ℕ) where
       let k = counted c e in
       appended-as (sym (listing-of (k .J) (k .job))) (appended-then (appended-as (ap (headerText b) (sym (k .count))) h) (l .lines (k .J) (k .job)))
 
+-- what is lined up are the first edges of the block: they can be printed, what is printed are the lines, and no refusal is told
+pub record Listed (b : List ℕ) (many : ℕ) (r : Built) (s t : List ℕ) : Type 0 where
+  pub ready : (text : List ℕ) (at : ℕ) → length s ≡ 128000 → at + 151000 ≤ length text → Roomy s t many text at
+  pub told : (old new : List ℕ) (at e : ℕ) → Appended old at (linesText (edgeAt s t) many) e new → LinesOf b old at e new
+  pub never : (x : ℕ) → r ≡ Refused x → ⊥
+
 module _ (b : List ℕ) (c : ℕ) (known : countAnswer b ≡ accepted c) (numbers : List ℕ) (up : Counting numbers) (thousand : length numbers ≡ 1000) (many : ℕ) (m : many ≡ min c 1000) where
   abbrev ns : List ℕ
   ns = take many numbers
@@ -127,32 +133,28 @@ module _ (b : List ℕ) (c : ℕ) (known : countAnswer b ≡ accepted c) (number
         (lines-built (edgesAnswer b ns) ns steps₀ ends₀ v r s t
         (record { for-steps = omega (arith, ns-long, many-most); for-ends = omega (arith, ns-long, many-most) }) q w)
 
-    pub lines-ready : (text : List ℕ) (at : ℕ) → length s ≡ 128000 → at + 151000 ≤ length text → Roomy s t many text at
-    unfolding lined
-    lines-ready text at q l =
-        record {
-          cut = subst (Cut s t) edges-long (cut-of edges _ _ s t (lined-of .bytes) (lined-of .places));
-          room = omega (arith, many-most);
-        }
-
     edges-at : (i : ℕ) → i < many → edgeAt s t i ≡ edgeOf job-of i
     unfolding lined
     edges-at i l =
         edge-of edges _ _ s t (lined-of .bytes) (lined-of .places) i (omega (arith, edges-long))
         ∙ getD-map (edgeOf job-of) ns i (omega (arith, ns-long)) ∙ ap (edgeOf job-of) (ns-at i l)
 
-    pub lines-told : {old new : List ℕ} {at e : ℕ} → Appended old at (linesText (edgeAt s t) many) e new → LinesOf b old at e new
-    lines-told {old} {new} {at} {e} a =
-        record {
-          lines = λ J q.
-              let k = counted b c known in
-              let same : J ≡ k .J = let z = k .job in cc in
-              appended-as (lines-same (edgeAt s t) (edgeOf job-of) many edges-at ∙ ap₂ (λ (K : Job) (x : ℕ). linesText (edgeOf K) x) (sym same) (m ∙ ap (λ (x : ℕ). min x 1000) (sym (k .count) ∙ ap countOf (sym same)))) a;
-        }
-
-    pub lines-never : (x : ℕ) → r ≡ Refused x → ⊥
+    pub listed : Listed b many r s t
     unfolding lined
-    lines-never x q =
-        let v : buildSays (Refused x) ≡ value (length (joined edges)) = ap buildSays (sym q) ∙ lined-of .says in
-        let z : _≡_ {A = ℕ} 0 1 = cc in
-        omega arith
+    listed = record {
+      ready = λ text at q l. record {
+        cut = subst (Cut s t) edges-long (cut-of edges _ _ s t (lined-of .bytes) (lined-of .places));
+        room = omega (arith, many-most);
+      };
+      told = λ old new at e a. record {
+        lines = λ J q.
+            let k = counted b c known in
+            let same : J ≡ k .J = let z = k .job in cc in
+            appended-as (lines-same (edgeAt s t) (edgeOf job-of) many edges-at ∙ ap₂ (λ (K : Job) (x : ℕ). linesText (edgeOf K) x) (sym same)
+            (m ∙ ap (λ (x : ℕ). min x 1000) (sym (k .count) ∙ ap countOf (sym same)))) a;
+      };
+      never = λ x q.
+          let v : buildSays (Refused x) ≡ value (length (joined edges)) = ap buildSays (sym q) ∙ lined-of .says in
+          let z : _≡_ {A = ℕ} 0 1 = cc in
+          omega arith;
+    }

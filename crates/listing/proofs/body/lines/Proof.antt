@@ -6,7 +6,7 @@ use native.Mathlib.Omega.{arith}
 use lib.ListN.{replicate, length-replicate}
 use lib.Seq.{length-take-le}
 use borrow.Author.Needs.{needs}
-use Rattle.listing.proofs.Telling.{lines-ready, lines-told, lines-never}
+use Rattle.listing.proofs.Telling.{Listed, listed}
 use Rattle.listing.proofs.body.lines.Statement.{statement}
 use Rattle.listing.proofs.body.lines.Tie as tie
 
@@ -22,17 +22,22 @@ slice-aggregate-build-all : tie.Need-slice-aggregate-build-all
 slice-aggregate-build-all c =
     sym (length-take-le _ _ (omega (arith, c .before .shown-of .ensures, min-le-right (c .before .before .before .before .before .before .before .args .count) 1000)))
 
+-- the edges of the numbers from 0 up are lined up
+here : (c : tie.After-built) →
+    let last = c .before .before .before .build-all .last in
+    Listed (c .before .before .before .before .before .before .before .before .before .before .before .before .before .args .block .now) (c .before .before .before .before .before .before .before .shown-of .result) (c .built .result) (last .1 .1 .0) (last .1 .1 .1 .0)
+here c =
+    listed _ _ (c .before .before .before .before .before .before .before .before .before .before .before .before .before .pre .counted) _ (c .before .before .before .before .before .before .before .before .before .count-up .ensures) (omega arith) _ (c .before .before .before .before .before .before .before .shown-of .ensures)
+    (replicate 128000 0) (replicate 1000 0) (length-replicate {A = ℕ} 128000 0) (length-replicate {A = ℕ} 1000 0) _ _ _ _ (c .built .ensures) (c .before .before .before .build-all .ensures)
+
 lines-of-requires : tie.Need-lines-of-requires
-lines-of-requires c κs =
-    lines-ready _ _ (c .before .before .before .before .before .before .before .before .before .before .before .before .before .before .before .before .before .before .pre .counted) _ (c .before .before .before .before .before .before .before .before .before .before .before .before .before .before .count-up .ensures) (omega arith) _ (c .before .before .before .before .before .before .before .before .before .before .before .before .shown-of .ensures) (replicate 128000 0) (replicate 1000 0) (length-replicate {A = ℕ} 128000 0) (length-replicate {A = ℕ} 1000 0) _ _ _ _ (c .before .before .before .before .before .built .ensures) (c .before .before .before .before .before .before .before .before .build-all .ensures) _ _ (omega arith) (c .before .before .before .before .before .before .before .before .before .before .before .before .before .before .before .before .before .before .pre .room)
+lines-of-requires c κs = here (c .before .before .before .before .before) .ready _ _ (omega arith) (c .before .before .before .before .before .before .before .before .before .before .before .before .before .before .before .before .before .before .pre .room)
 
 returns : tie.Need-returns
-returns c =
-    lines-told _ _ (c .before .before .before .before .before .before .before .before .before .before .before .before .before .before .before .before .before .before .before .before .before .pre .counted) _ (c .before .before .before .before .before .before .before .before .before .before .before .before .before .before .before .before .before .count-up .ensures) (omega arith) _ (c .before .before .before .before .before .before .before .before .before .before .before .before .before .before .before .shown-of .ensures) (replicate 128000 0) (replicate 1000 0) (length-replicate {A = ℕ} 128000 0) (length-replicate {A = ℕ} 1000 0) _ _ _ _ (c .before .before .before .before .before .before .before .before .built .ensures) (c .before .before .before .before .before .before .before .before .before .before .before .build-all .ensures) (c .before .before .lines-of .ensures)
+returns c = here (c .before .before .before .before .before .before .before .before) .told _ _ _ _ (c .before .before .lines-of .ensures)
 
 returns-2 : tie.Need-returns-2
-returns-2 c =
-    absurd (lines-never _ _ (c .before .before .before .before .before .before .before .before .before .before .before .before .before .before .before .pre .counted) _ (c .before .before .before .before .before .before .before .before .before .before .before .count-up .ensures) (omega arith) _ (c .before .before .before .before .before .before .before .before .before .shown-of .ensures) (replicate 128000 0) (replicate 1000 0) (length-replicate {A = ℕ} 128000 0) (length-replicate {A = ℕ} 1000 0) _ _ _ _ (c .before .before .built .ensures) (c .before .before .before .before .before .build-all .ensures) _ (c .enum-told2 .given .1))
+returns-2 c = absurd (here (c .before .before) .never _ (c .enum-told2 .given .1))
 
 pub lines-spec : {M : Type 1} → statement M
 lines-spec =

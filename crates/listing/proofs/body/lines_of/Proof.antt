@@ -1,6 +1,7 @@
 -- `body::lines_of` meets its contract: after i turns i lines are printed. Assumes nothing.
 use Prim.Native.Nat.{_-_, _≤_}
 use native.Mathlib.Omega.{arith}
+use lib.ListN.{length, getD}
 use Rattle.listing.proofs.Printing.{Printed, printed-none, printed-part, printed-room, printed-next, printed-all}
 use borrow.Author.Needs.{needs}
 use Rattle.listing.proofs.body.lines_of.Statement.{statement}
@@ -23,20 +24,34 @@ found = search needs
 shared-slice-read-end : tie.Need-shared-slice-read-end Inv-loop μ-loop
 shared-slice-read-end c = omega (arith, c .before .before .before .before .before .before .pre .cut .ended)
 
+-- the edge of this turn lies in the steps
+edge : (c : tie.In-loop Inv-loop μ-loop) →
+    let args = c .before .before .before .before .before .args in
+    let end = getD (args .ends .now) (c .before .loop .i) 0 in
+    (c .before .loop .start ≤ end) × (end ≤ length (args .steps .now))
+edge c = printed-part _ _ _ _ _ (c .before .before .before .before .before .pre) _ _ _ _ (c .before .loop .inv .1) (c .loop-test .taken)
+
 sub-line : tie.Need-sub-line Inv-loop μ-loop
-sub-line c = printed-part _ _ _ _ _ (c .before .before .before .before .before .before .before .pre) _ _ _ _ (c .before .before .before .loop .inv .1) (c .before .before .loop-test .taken) .0
+sub-line c = edge (c .before .before) .0
 
 part-line-start : tie.Need-part-line-start Inv-loop μ-loop
-part-line-start c = let h = printed-part _ _ _ _ _ (c .before .before .before .before .before .before .before .pre) _ _ _ _ (c .before .before .before .loop .inv .1) (c .before .before .loop-test .taken) in omega arith
+part-line-start c = omega (arith, edge (c .before .before))
 
 part-line-end : tie.Need-part-line-end Inv-loop μ-loop
-part-line-end c = let h = printed-part _ _ _ _ _ (c .before .before .before .before .before .before .before .pre) _ _ _ _ (c .before .before .before .loop .inv .1) (c .before .before .loop-test .taken) in omega arith
+part-line-end c = omega (arith, edge (c .before .before))
 
 line-requires : tie.Need-line-requires Inv-loop μ-loop
-line-requires c κs = printed-room _ _ _ _ _ (c .before .before .before .before .before .before .before .before .before .pre) _ _ _ _ (c .before .before .before .before .before .loop .inv .1) (c .before .before .before .before .loop-test .taken)
+line-requires c κs =
+    let at = c .before .before .before .before in
+    printed-room _ _ _ _ _ (at .before .before .before .before .before .pre) _ _ _ _ (at .before .loop .inv .1) (at .loop-test .taken)
 
 loop-again : tie.Need-loop-again Inv-loop μ-loop
-loop-again c = (search needs, printed-next _ _ _ _ _ (c .before .before .before .before .before .before .before .before .before .before .before .before .pre) _ _ _ _ (c .before .before .before .before .before .before .before .before .loop .inv .1) (c .before .before .before .before .before .before .before .loop-test .taken) _ _ _ (c .before .before .before .before .before .wide .ensures) (c .before .before .line .ensures))
+loop-again c =
+    let at = c .before .before .before .before .before .before .before in (
+      search needs,
+      printed-next _ _ _ _ _ (at .before .before .before .before .before .pre) _ _ _ _ (at .before .loop .inv .1) (at .loop-test .taken) _ _ _
+          (c .before .before .before .before .before .wide .ensures) (c .before .before .line .ensures),
+    )
 
 same-length : tie.Need-same-length Inv-loop μ-loop
 same-length c = c .before .loop .inv .1 .appended .as-long

@@ -32,8 +32,11 @@ table : (c : tie.After-edge-count) →
     laid pack
     ≡ (leb n 200 && (leb (shortest + 2 * n) (length pack) && (eqb (offset pack 0) (shortest + 2 * n) && (rises pack n && eqb (offset pack n) (length pack)))))
 table c =
-    laid-at _ _ (c .edge-count .ensures .0) ∙ simp (le-leb _ _ (c .before .before .before .before .if1 .left), le-leb _ _ (c .before .before .before .if2 .left),
-    sym (c .before .before .is-marked .ensures) ∙ not-false _ (c .before .if3 .left))
+    laid-at _ _ (c .edge-count .ensures .0) ∙ simp (
+      le-leb _ _ (c .before .before .before .before .if1 .left),
+      le-leb _ _ (c .before .before .before .if2 .left),
+      sym (c .before .before .is-marked .ensures) ∙ not-false _ (c .before .if3 .left),
+    )
 
 returns-4 : tie.Need-returns-4
 returns-4 c = sym (table (c .before) ∙ simp (lt-leb _ _ (c .if4 .taken)))
@@ -56,13 +59,18 @@ is-rising-requires c κs = search needs
 
 returns-7 : tie.Need-returns-7
 returns-7 c =
-    sym (offsets (c .before .before .before .before) ∙ simp (eq-eqb _ _ (sym (c .before .before .before .offset-at .ensures) ∙ c .before .before .if6 .left),
-    sym (c .before .is-rising .ensures) ∙ not-true _ (c .if7 .taken)))
+    sym (offsets (c .before .before .before .before) ∙ simp (
+      eq-eqb _ _ (sym (c .before .before .before .offset-at .ensures) ∙ c .before .before .if6 .left),
+      sym (c .before .is-rising .ensures) ∙ not-true _ (c .if7 .taken),
+    ))
 
 returns-8 : tie.Need-returns-8
 returns-8 c =
-    sym (offsets (c .before .before .before .before .before) ∙ simp (eq-eqb _ _ (sym (c .before .before .before .before .offset-at .ensures) ∙ c .before .before .before .if6 .left),
-    sym (c .before .before .is-rising .ensures) ∙ not-false _ (c .before .if7 .left), sym (c .offset-at2 .ensures)))
+    sym (offsets (c .before .before .before .before .before) ∙ simp (
+      eq-eqb _ _ (sym (c .before .before .before .before .offset-at .ensures) ∙ c .before .before .before .if6 .left),
+      sym (c .before .before .is-rising .ensures) ∙ not-false _ (c .before .if7 .left),
+      sym (c .offset-at2 .ensures),
+    ))
 
 pub is-laid-spec : {M : Type 1} → statement M
 is-laid-spec =
