@@ -2,10 +2,11 @@
 use mathlib.Core.Path.{sym}
 use Prim.Native.Nat.{ℕ}
 use native.Mathlib.Omega.{arith}
-use lib.ListN.{replicate, length-replicate}
+use lib.ListN.{length, replicate, length-replicate}
 use lib.Seq.{length-take-le}
 use borrow.Author.Needs.{needs}
-use Rattle.packing.proofs.Wholes.{many-built, whole-of, whole-built, whole-refused}
+use Rattle.lines.specs.Lines.{Room}
+use Rattle.packing.proofs.Wholes.{many-built, Whole, whole-of, whole-built, whole-refused}
 use Rattle.packing.proofs.write.Statement.{statement}
 use Rattle.packing.proofs.write.Tie as tie
 
@@ -18,29 +19,45 @@ returns : tie.Need-returns
 returns c =
     many-built (c .before .before .before .before .before .args .block .now) (c .before .before .before .before .before .args .numbers .now) _ _ (c .before .if1 .taken) (c .too-many .ensures)
 
+-- there is room for the edges in the arrays
+room : (c : tie.Else1) → Room (length (c .before .before .before .before .args .numbers .now)) (length (replicate {A = ℕ} 25600 0)) (length (replicate {A = ℕ} 200 0))
+room c = record {
+  for-steps = omega (arith, length-replicate {A = ℕ} 25600 0, c .if1 .left);
+  for-ends = omega (arith, length-replicate {A = ℕ} 200 0, c .if1 .left);
+}
+
+-- what was lined up
+whole : (c : tie.After-known-told) →
+    let args = c .before .before .before .before .before .before .before .before .before .before .before .before .before .args in
+    let last = c .before .before .before .before .before .before .build-all .last in
+    Whole (args .block .now) (args .numbers .now) (last .1 .1 .0) (last .1 .1 .1 .0) (c .before .n .given .0 .0)
+whole c =
+    let few = c .before .before .before .before .before .before .before .before .before in
+    whole-of _ _ (replicate 25600 0) (replicate 200 0) (room few) (few .if1 .left) _ _ _ _ _ (c .before .before .before .built .ensures) (c .before .n .given .1)
+    (c .before .before .before .before .before .before .build-all .ensures) (search needs)
+
 slice-aggregate-put-pack : tie.Need-slice-aggregate-put-pack
-slice-aggregate-put-pack c =
-    sym (length-take-le _ _ ((whole-of (c .before .before .before .before .before .before .before .before .before .before .before .before .before .before .args .block .now) (c .before .before .before .before .before .before .before .before .before .before .before .before .before .before .args .numbers .now) (replicate 25600 0) (replicate 200 0) (record { for-steps = omega (arith, length-replicate {A = ℕ} 25600 0, c .before .before .before .before .before .before .before .before .before .before .if1 .left); for-ends = omega (arith, length-replicate {A = ℕ} 200 0, c .before .before .before .before .before .before .before .before .before .before .if1 .left) }) (c .before .before .before .before .before .before .before .before .before .before .if1 .left) _ _ _ _ _ (c .before .before .before .before .built .ensures) (c .before .before .n .given .1) (c .before .before .before .before .before .before .before .build-all .ensures) (search needs)) .many))
+slice-aggregate-put-pack c = sym (length-take-le _ _ (whole (c .before) .many))
 
 array-share-prefix-steps : tie.Need-array-share-prefix-steps
-array-share-prefix-steps c =
-    (whole-of (c .before .before .before .before .before .before .before .before .before .before .before .before .before .before .args .block .now) (c .before .before .before .before .before .before .before .before .before .before .before .before .before .before .args .numbers .now) (replicate 25600 0) (replicate 200 0) (record { for-steps = omega (arith, length-replicate {A = ℕ} 25600 0, c .before .before .before .before .before .before .before .before .before .before .if1 .left); for-ends = omega (arith, length-replicate {A = ℕ} 200 0, c .before .before .before .before .before .before .before .before .before .before .if1 .left) }) (c .before .before .before .before .before .before .before .before .before .before .if1 .left) _ _ _ _ _ (c .before .before .before .before .built .ensures) (c .before .before .n .given .1) (c .before .before .before .before .before .before .before .build-all .ensures) (search needs)) .fits
+array-share-prefix-steps c = whole (c .before) .fits
 
 slice-aggregate-put-pack-2 : tie.Need-slice-aggregate-put-pack-2
-slice-aggregate-put-pack-2 c =
-    sym (length-take-le _ _ ((whole-of (c .before .before .before .before .before .before .before .before .before .before .before .before .before .before .before .args .block .now) (c .before .before .before .before .before .before .before .before .before .before .before .before .before .before .before .args .numbers .now) (replicate 25600 0) (replicate 200 0) (record { for-steps = omega (arith, length-replicate {A = ℕ} 25600 0, c .before .before .before .before .before .before .before .before .before .before .before .if1 .left); for-ends = omega (arith, length-replicate {A = ℕ} 200 0, c .before .before .before .before .before .before .before .before .before .before .before .if1 .left) }) (c .before .before .before .before .before .before .before .before .before .before .before .if1 .left) _ _ _ _ _ (c .before .before .before .before .before .built .ensures) (c .before .before .before .n .given .1) (c .before .before .before .before .before .before .before .before .build-all .ensures) (search needs)) .fits))
+slice-aggregate-put-pack-2 c = sym (length-take-le _ _ (whole (c .before .before) .fits))
 
 put-pack-requires : tie.Need-put-pack-requires
-put-pack-requires c κs =
-    (whole-of (c .before .before .before .before .before .before .before .before .before .before .before .before .before .before .before .before .args .block .now) (c .before .before .before .before .before .before .before .before .before .before .before .before .before .before .before .before .args .numbers .now) (replicate 25600 0) (replicate 200 0) (record { for-steps = omega (arith, length-replicate {A = ℕ} 25600 0, c .before .before .before .before .before .before .before .before .before .before .before .before .if1 .left); for-ends = omega (arith, length-replicate {A = ℕ} 200 0, c .before .before .before .before .before .before .before .before .before .before .before .before .if1 .left) }) (c .before .before .before .before .before .before .before .before .before .before .before .before .if1 .left) _ _ _ _ _ (c .before .before .before .before .before .before .built .ensures) (c .before .before .before .before .n .given .1) (c .before .before .before .before .before .before .before .before .before .build-all .ensures) (search needs)) .packed
+put-pack-requires c κs = whole (c .before .before .before) .packed
 
 returns-2 : tie.Need-returns-2
 returns-2 c =
-    whole-built (c .before .before .before .before .before .before .before .before .before .before .before .before .before .before .before .before .before .before .before .args .block .now) (c .before .before .before .before .before .before .before .before .before .before .before .before .before .before .before .before .before .before .before .args .numbers .now) (replicate 25600 0) (replicate 200 0) (record { for-steps = omega (arith, length-replicate {A = ℕ} 25600 0, c .before .before .before .before .before .before .before .before .before .before .before .before .before .before .before .if1 .left); for-ends = omega (arith, length-replicate {A = ℕ} 200 0, c .before .before .before .before .before .before .before .before .before .before .before .before .before .before .before .if1 .left) }) (c .before .before .before .before .before .before .before .before .before .before .before .before .before .before .before .if1 .left) _ _ _ (whole-of (c .before .before .before .before .before .before .before .before .before .before .before .before .before .before .before .before .before .before .before .args .block .now) (c .before .before .before .before .before .before .before .before .before .before .before .before .before .before .before .before .before .before .before .args .numbers .now) (replicate 25600 0) (replicate 200 0) (record { for-steps = omega (arith, length-replicate {A = ℕ} 25600 0, c .before .before .before .before .before .before .before .before .before .before .before .before .before .before .before .if1 .left); for-ends = omega (arith, length-replicate {A = ℕ} 200 0, c .before .before .before .before .before .before .before .before .before .before .before .before .before .before .before .if1 .left) }) (c .before .before .before .before .before .before .before .before .before .before .before .before .before .before .before .if1 .left) _ _ _ _ _ (c .before .before .before .before .before .before .before .before .before .built .ensures) (c .before .before .before .before .before .before .before .n .given .1) (c .before .before .before .before .before .before .before .before .before .before .before .before .build-all .ensures) (search needs)) _ _ _ (c .before .before .put-pack .ensures)
+    let at = c .before .before .before .before .before .before in
+    whole-built _ _ (replicate 25600 0) (replicate 200 0) (room (at .before .before .before .before .before .before .before .before .before)) (at .before .before .before .before .before .before .before .before .before .if1 .left) _ _ _ (whole at) _ _ _ (c .before .before .put-pack .ensures)
 
 returns-3 : tie.Need-returns-3
 returns-3 c =
-    whole-refused (c .before .before .before .before .before .before .before .before .before .before .before .before .before .args .block .now) (c .before .before .before .before .before .before .before .before .before .before .before .before .before .args .numbers .now) (replicate 25600 0) (replicate 200 0) (record { for-steps = omega (arith, length-replicate {A = ℕ} 25600 0, c .before .before .before .before .before .before .before .before .before .if1 .left); for-ends = omega (arith, length-replicate {A = ℕ} 200 0, c .before .before .before .before .before .before .before .before .before .if1 .left) }) (c .before .before .before .before .before .before .before .before .before .if1 .left) _ _ _ _ _ _ (c .before .before .before .built .ensures) (c .before .r .given .1) (c .before .before .before .before .before .before .build-all .ensures)
+    let few = c .before .before .before .before .before .before .before .before .before in
+    whole-refused _ _ (replicate 25600 0) (replicate 200 0) (room few) (few .if1 .left) _ _ _ _ _ _ (c .before .before .before .built .ensures) (c .before .r .given .1)
+    (c .before .before .before .before .before .before .build-all .ensures)
 
 pub write-spec : {M : Type 1} → statement M
 write-spec =

@@ -1,8 +1,8 @@
 -- `packing::put::put_offsets` meets its contract: the loop holds the offsets of the edges before i. Assumes nothing.
 use mathlib.Core.Path.{_≡_, refl, _∙_}
-use Prim.Native.Nat.{_-_, _≤_}
+use Prim.Native.Nat.{_+_, _-_, _≤_, _<_}
 use native.Mathlib.Omega.{arith}
-use lib.ListN.{length, take}
+use lib.ListN.{length, take, getD}
 use Rattle.rules.specs.Packs.{shortest}
 use Rattle.packing.specs.Packing.{pasted, offsetsOf}
 use Rattle.packing.proofs.Pastes.{offsets-none, offsets-next, offsets-all}
@@ -24,11 +24,15 @@ found : tie.Need-mul-put-two Inv-loop μ-loop × tie.Need-add-put-two Inv-loop �
     tie.Need-shared-slice-read-put-two Inv-loop μ-loop × tie.Need-add-i Inv-loop μ-loop × tie.Need-same-length Inv-loop μ-loop
 found = search needs
 
+-- the offset that is put fits two bytes
+low : (c : tie.In-loop Inv-loop μ-loop) → c .before .before .before .before .args .first + getD (c .before .before .before .before .args .ends .now) (c .before .loop .i) 0 < 65536
+low c = omega (arith, c .before .before .before .before .pre .low, c .before .before .before .before .pre .within (c .before .loop .i) (c .loop-test .taken))
+
 add-put-two-2 : tie.Need-add-put-two-2 Inv-loop μ-loop
-add-put-two-2 c = omega (arith, c .before .before .before .before .before .before .pre .low, c .before .before .before .before .before .before .pre .within (c .before .before .before .loop .i) (c .before .before .loop-test .taken))
+add-put-two-2 c = omega (arith, low (c .before .before))
 
 put-two-requires : tie.Need-put-two-requires Inv-loop μ-loop
-put-two-requires c κs = (omega (arith, c .before .before .before .before .before .before .pre .room, c .before .before .before .loop .inv .1), omega (arith, c .before .before .before .before .before .before .pre .low, c .before .before .before .before .before .before .pre .within (c .before .before .before .loop .i) (c .before .before .loop-test .taken)))
+put-two-requires c κs = (omega (arith, c .before .before .before .before .before .before .pre .room, c .before .before .before .loop .inv .1), omega (arith, low (c .before .before)))
 
 loop-less : tie.Need-loop-less Inv-loop μ-loop
 loop-less c = omega arith
