@@ -25,7 +25,8 @@ use Rattle.rules.proofs.Answering.{known-over}
 use Rattle.rules.proofs.Recurrences.{C-limit, S-limit, M-limit}
 use Rattle.job.specs.declared.Job.{Job}
 use Rattle.job.specs.Stands.{Stands}
-use Rattle.job.specs.Stands.Stands.{as-north-east, as-dyck, as-delannoy, as-schroder, as-motzkin, as-open, as-fenced}
+use Rattle.job.proofs.Sorts.{AsSquare, square-of}
+use Rattle.job.proofs.Sorts.AsSquare.{as-square}
 use Rattle.job.proofs.Standing.{Kept}
 use Rattle.lines.specs.Known.{Refusing}
 use Rattle.arch.specs.Calls.{Within}
@@ -42,17 +43,11 @@ by-schroder f e n = rw e refl
 pub by-motzkin : (f : ℕ) → (f ≡ 2 → ⊥) → (f ≡ 4 → ⊥) → (n : ℕ) → jobBy f n ≡ motzkin n
 by-motzkin f p q n = rw (ne-eqb f 2 p, ne-eqb f 4 q) refl
 
-not-square : {f g : ℕ} → f ≡ g → square g ≡ false → square f ≡ true → ⊥
-not-square e q h = subst T (sym (sym q ∙ ap square (sym e) ∙ h)) tt
-
 stands-by : {j : Job} {J : rules.Job} → Stands j J → square (j .family) ≡ true → J ≡ jobBy (j .family) (j .n)
-stands-by (as-north-east e l) h = absurd (not-square e refl h)
-stands-by (as-dyck e l) h = rw e refl
-stands-by (as-delannoy e l) h = absurd (not-square e refl h)
-stands-by (as-schroder e l) h = rw e refl
-stands-by (as-motzkin e l) h = rw e refl
-stands-by (as-open e l) h = absurd (not-square e refl h)
-stands-by (as-fenced e l) h = absurd (not-square e refl h)
+stands-by st h = go (square-of st h)
+  where
+    go : {j : Job} {J : rules.Job} → AsSquare j J → J ≡ jobBy (j .family) (j .n)
+    go (as-square l) = refl
 
 abbrev pub Limit : (ℕ → rules.Job) → ℕ → Type 0
 Limit family limit = (n : ℕ) → (n ≤ limit → countOf (family n) < 2 ^ 64) × (limit < n → 2 ^ 64 ≤ countOf (family n))

@@ -18,7 +18,7 @@ use Rattle.rules.specs.Questions.{allBelow}
 use Rattle.job.specs.declared.Built.the-variants.{Length, Refused}
 use Rattle.lines.specs.Known.{BuildsOf}
 use Rattle.lines.proofs.Lining.{Lining, lining-next, lining-all, lined-refused}
-use Rattle.arch.specs.Answers.{archJob, Written}
+use Rattle.arch.specs.Answers.{archJob, EdgeInFront}
 use Rattle.arch.specs.Table.{Table}
 use Rattle.arch.proofs.Calls.{edgeBy, edgesFor, edges-of}
 
@@ -32,7 +32,7 @@ module _ {d : Bool} {v n : ℕ} {table : List ℕ} (full : Table d v n table) (n
     none-lined e = rw (edges-of full ns) (lined-refused (edgesFor d v n ns) beyond 6 steps ends (rw e refl) refl)
 
     module _ (i at : ℕ) (s t : List ℕ) (so : Lining (edgeBy d v n) ns steps ends i at s t) where
-      pub next-lined : (k : ℕ) (part : List ℕ) → i < length ns → n + n ≤ 128 → Written d v n (getD ns i 0) (take (length s - at) (drop at s)) part k
+      pub next-lined : (k : ℕ) (part : List ℕ) → i < length ns → n + n ≤ 128 → EdgeInFront d v n (getD ns i 0) (take (length s - at) (drop at s)) part k
           → Lining (edgeBy d v n) ns steps ends (i + 1) (at + k) (putMid at (length s - at) s part) (set t i (at + k))
       next-lined k part l h w =
           lining-next (edgeBy d v n) ns steps ends i at s t so k part l (sym (w .long)) (omega (arith, w .short)) (w .shown)

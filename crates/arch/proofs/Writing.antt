@@ -6,7 +6,7 @@
 --   spelt-none, spelt-dee, spelt-arch an empty path, one that ends in `D`, one that ends in an arch
 --   spelt-before                      as many bytes as there were
 --   Insides, insides                  what the code asks between an arch's inside and its first part
---   spelt-whole, put-written          the spelt bytes, put to the front of others: there is room
+--   spelt-whole, put-in-front          the spelt bytes, put to the front of others: there is room
 use mathlib.Core.Path.{_≡_, refl, sym, ap, _∙_}
 use mathlib.Core.Bool.{Bool}
 use mathlib.Core.List.{List, [], _∷_, _++_, append-nil, append-assoc}
@@ -29,7 +29,7 @@ use Rattle.rules.specs.Answers.{written}
 use Rattle.job.specs.declared.Built.{Built}
 use Rattle.job.specs.Replies.{BuiltAs}
 use Rattle.arch.specs.Sums.{Falls}
-use Rattle.arch.specs.Answers.{Written, Spelt}
+use Rattle.arch.specs.Answers.{EdgeInFront, Spelt}
 
 built-is : (d : Bool) (v n r : ℕ) (t : Tree d) → size d v t ≡ n → number d v t ≡ r → r < count d v n → build d v n n r ≡ t
 built-is d v n r t z q lt =
@@ -203,8 +203,8 @@ module _ {d : Bool} {v n r : ℕ} {new : List ℕ} {k : ℕ} (s : Spelt d v n r 
         let fits : length (print d v (build d v n n r)) ≤ length out = omega (arith, long-least d v n r lt) in
         rw (le-leb (length (print d v (build d v n n r))) (length out) fits) at (rw part-is at p)
 
-    pub put-written : Written d v n r out after (128 - k)
-    put-written =
+    pub put-in-front : EdgeInFront d v n r out after (128 - k)
+    put-in-front =
         let q = put-is .output in
         let long : length (print d v (build d v n n r)) ≡ 128 - k = omega (arith, s .long) in
         record {

@@ -4,7 +4,7 @@
 --   IsEdge d v n r s          s is an edge of n, with the number r
 --   Numbered d v n s r        r says that, or that s is no edge of n
 --   RankOf J s r              r says the number of s as an edge of the job J, or that s is none
---   Written d v n r old new k   the first k of the bytes old are now the edge of number r, and the others are as they were
+--   EdgeInFront d v n r old new k   the first k of the bytes old are now the edge of number r, and the others are as they were
 --   Spelt d v n r old new end k   the bytes old from k up to end are now the edge of number r, and the others are as they were
 use mathlib.Core.Path.{_≡_}
 use mathlib.Core.Bool.{Bool, true, false}
@@ -41,7 +41,7 @@ abbrev pub RankOf : Job → List ℕ → Rank → Type 0
 RankOf J s r = RankIs (isEdge J s) (numberOf J s) r
 
 -- "An accepted write fills the front of the output, reports its length and touches nothing behind it."
-pub record Written (d : Bool) (v n r : ℕ) (old new : List ℕ) (k : ℕ) : Type 0 where
+pub record EdgeInFront (d : Bool) (v n r : ℕ) (old new : List ℕ) (k : ℕ) : Type 0 where
   pub shown : new ≡ print d v (build d v n n r) ++ drop k old
   pub long : length (print d v (build d v n n r)) ≡ k
   pub short : k ≤ n + n

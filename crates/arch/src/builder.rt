@@ -4,7 +4,7 @@ ghost use Prim.Native.Nat.{_≤_, _<_, _+_};
 ghost use lib.ListN.{length};
 ghost use Rattle.arches.specs.Counts.{count};
 ghost use Rattle.arch.specs.Table.{Table};
-ghost use Rattle.arch.specs.Answers.{Spelt, Written};
+ghost use Rattle.arch.specs.Answers.{Spelt, EdgeInFront};
 use crate::sums::d_count;
 use crate::sums::left_over;
 use crate::sums::locate;
@@ -83,7 +83,7 @@ fn inside(
 // Writes the edge of number r to the front of out, and says how long it is.
 pub(crate) fn build(out: &mut [u8], table: &[u64; 46], d: bool, v: usize, n: usize, r: u64) -> usize
     requires { ⌜ Table d v n (now table) × (r < count d v n) × (n + n ≤ length (now out)) ⌝ }
-    ensures { λ k. ⌜ Written d v n r (now (out .entry)) (now (out .exit)) k ⌝ }
+    ensures { λ k. ⌜ EdgeInFront d v n r (now (out .entry)) (now (out .exit)) k ⌝ }
 {
     let mut buf = [0u8; 128];
     let from = spell(&mut buf, table, d, v, 128, n, r);

@@ -23,7 +23,7 @@ use lib.Seq.{drop-cons, drop-length, getD-take, getD-drop, take-all}
 use borrow.Author.Tests.{eq-eqb, ne-eqb, lt-ltb, le-ltb, le-leb, lt-leb}
 use Rattle.rules.specs.Points.{leℤ, eqℤ}
 use Rattle.rules.specs.Jobs.{Pair}
-use Rattle.rules.specs.Blocks.{blockLength, paired, signed, familyOf, nOf, mOf, kOf, zeros, pairsIn, used, unused, formed, between, square, small, sizedLettered, sizedDirected, sized, isIn, twins}
+use Rattle.rules.specs.Blocks.{families, blockLength, paired, signed, familyOf, nOf, mOf, kOf, zeros, pairsIn, used, unused, formed, between, square, small, sizedLettered, sizedDirected, sized, isIn, twins}
 use Rattle.rules.proofs.Shear.{Is}
 use Rattle.rules.proofs.Letters.{eqℤ-eq, eqℤ-refl}
 use Rattle.rules.proofs.Signed.{is-up, is-fence}
@@ -210,7 +210,7 @@ pub zeros-past : (b : List ℕ) (n : ℕ) → length b ≤ n → zeros (drop n b
 unfolding zeros
 zeros-past b n h = ap zeros (drop-of-length-le b h)
 
-pub formed-is : (b : List ℕ) → formed b ≡ (eqb (length b) blockLength && (leb 1 (familyOf b) && (leb (familyOf b) 7 && zeros (pick (paired (familyOf b)) (drop (4 + 2 * kOf b) b) (drop 3 b)))))
+pub formed-is : (b : List ℕ) → formed b ≡ (eqb (length b) blockLength && (leb 1 (familyOf b) && (leb (familyOf b) families && zeros (pick (paired (familyOf b)) (drop (4 + 2 * kOf b) b) (drop 3 b)))))
 unfolding formed unused
 formed-is b = refl
 

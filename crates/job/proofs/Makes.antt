@@ -17,7 +17,7 @@ use Rattle.rules.specs.Refusals.{check}
 use Rattle.rules.specs.Refusals.Refusal.{form, size, twin}
 use Rattle.rules.specs.Refusals.Answer.{accepted}
 use Rattle.rules.specs.Refusals.{refusalNumber}
-use Rattle.rules.specs.Blocks.{blockLength, paired, familyOf, nOf, mOf, kOf, zeros, formed, sized, sizedDirected, small, used, between, twins, jobIn, jobAnswer}
+use Rattle.rules.specs.Blocks.{families, blockLength, paired, familyOf, nOf, mOf, kOf, zeros, formed, sized, sizedDirected, small, used, between, twins, jobIn, jobAnswer}
 use Rattle.rules.proofs.Families.{sized-paired}
 use Rattle.job.specs.Made.{Pairs, makes, madeOf, refusedBy, heldBy}
 use Rattle.job.proofs.Blocks.{formed-is}
@@ -31,7 +31,7 @@ unfolding zeros
 no-pairs b e l =
     let z : ℕ → Bool = λ n. zeros (pick (paired (familyOf b)) (drop (4 + 2 * kOf b) b) (drop 3 b)) in
     let a = and-right (eqb (length b) blockLength) _ (holds (sym (formed-is b) ∙ e)) in
-    let c = and-right (leb (familyOf b) 7) (z 0) (and-right (leb 1 (familyOf b)) _ a) in
+    let c = and-right (leb (familyOf b) families) (z 0) (and-right (leb 1 (familyOf b)) _ a) in
     let d : T (zeros (drop 3 b)) = rw l at c in
     let f : T (eqb (getD b 3 0) 0 && zeros (drop 4 b)) = rw (drop-cons b 3 0 (omega (arith, twenty-of b e))) at d in
     eqb→eq (getD b 3 0) 0 (and-left (eqb (getD b 3 0) 0) (zeros (drop 4 b)) f)

@@ -43,7 +43,8 @@ use Rattle.rules.proofs.Places.{place-none, place-wrong}
 use Rattle.rules.proofs.Answering.{known-told, count-known, count-told}
 use Rattle.job.specs.declared.Job.{Job}
 use Rattle.job.specs.Stands.{Directed, Stands}
-use Rattle.job.specs.Stands.Stands.{as-north-east, as-dyck, as-delannoy, as-schroder, as-motzkin, as-open, as-fenced}
+use Rattle.job.proofs.Sorts.{AsDirected, directed-of, directs}
+use Rattle.job.proofs.Sorts.AsDirected.{as-directed}
 use Rattle.job.specs.Replies.{reply}
 use Rattle.job.specs.Replies.Reply.{value, refusal}
 use Rattle.job.proofs.Standing.{Kept, Told}
@@ -114,27 +115,11 @@ module _ (j : Job) (fenced : Bool) (m : ℤ) (pairs : List Pair) (d : Directed j
     adds = adds t;
   }
 
--- a family that has no pairs isn't one that has
-other : {f g : ℕ} → f ≡ g → paired g ≡ false → paired f ≡ true → ⊥
-other e q h = subst T (sym h ∙ (ap paired e ∙ q)) tt
-
 pub slopes : {j : Job} {J : rules.Job} → Stands j J → (e : List ℕ) → paired (j .family) ≡ true → isEdge J e ≡ true → Slopes (j .b) e J
-slopes {j} (as-north-east q v) e f t = absurd (other q refl f)
-slopes {j} (as-dyck q v) e f t = absurd (other q refl f)
-slopes {j} (as-delannoy q v) e f t = absurd (other q refl f)
-slopes {j} (as-schroder q v) e f t = absurd (other q refl f)
-slopes {j} (as-motzkin q v) e f t = absurd (other q refl f)
-slopes {j} (as-open {m} {pairs} q v) e f t = directed-slopes j false m pairs v e (holds t)
-slopes {j} (as-fenced {m} {pairs} q v) e f t = directed-slopes j true m pairs v e (holds t)
-
-directs : {j : Job} {J : rules.Job} → Stands j J → isDirected J ≡ paired (j .family)
-directs (as-north-east q v) = rw q refl
-directs (as-dyck q v) = rw q refl
-directs (as-delannoy q v) = rw q refl
-directs (as-schroder q v) = rw q refl
-directs (as-motzkin q v) = rw q refl
-directs (as-open q v) = rw q refl
-directs (as-fenced q v) = rw q refl
+slopes st e f t = go (directed-of st f) t
+  where
+    go : {j : Job} {J : rules.Job} → AsDirected j J → isEdge J e ≡ true → Slopes (j .b) e J
+    go {j} (as-directed fenced {m} {pairs} q d) t = directed-slopes j fenced m pairs d e (holds t)
 
 -- ---- the loop of `first_rise`
 

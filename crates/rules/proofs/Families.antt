@@ -17,7 +17,7 @@ use Rattle.howmany.proofs.Choices.{and-left, and-right, is-false}
 use Rattle.rules.specs.Points.{height}
 use Rattle.rules.specs.Jobs.{Job}
 use Rattle.rules.specs.Jobs.Job.{north-east, dyck, delannoy, schroder, motzkin, directed}
-use Rattle.rules.specs.Blocks.{blockLength, familyOf, nOf, mOf, used, plain, square, paired, zeros, unused, formed, sizedLettered, sizedDirected, sized, jobIn, jobAnswer}
+use Rattle.rules.specs.Blocks.{blockLength, families, familyOf, nOf, mOf, used, plain, square, paired, zeros, unused, formed, sizedLettered, sizedDirected, sized, jobIn, jobAnswer}
 use Rattle.rules.specs.Refusals.Refusal.{form}
 use Rattle.rules.specs.Refusals.Answer.{refused}
 
@@ -31,13 +31,13 @@ pub data FamilyIs (b : List ℕ) : Job → Type 0 where
   is-fenced : familyOf b ≡ 7 → FamilyIs b (directed true (nOf b) (mOf b) 0 (used b))
 
 module _ (b : List ℕ) (f : T (formed b)) where
-  family-range : (1 ≤ familyOf b) × (familyOf b ≤ 7)
+  family-range : (1 ≤ familyOf b) × (familyOf b ≤ families)
   unfolding formed
   family-range =
       let z = zeros (unused b) in
-      let u = and-right (eqb (length b) blockLength) (leb 1 (familyOf b) && (leb (familyOf b) 7 && z)) f in (
-        leb→le 1 (familyOf b) (and-left (leb 1 (familyOf b)) (leb (familyOf b) 7 && z) u),
-        leb→le (familyOf b) 7 (and-left (leb (familyOf b) 7) z (and-right (leb 1 (familyOf b)) (leb (familyOf b) 7 && z) u)),
+      let u = and-right (eqb (length b) blockLength) (leb 1 (familyOf b) && (leb (familyOf b) families && z)) f in (
+        leb→le 1 (familyOf b) (and-left (leb 1 (familyOf b)) (leb (familyOf b) families && z) u),
+        leb→le (familyOf b) families (and-left (leb (familyOf b) families) z (and-right (leb 1 (familyOf b)) (leb (familyOf b) families && z) u)),
       )
 
   last : (eqb (familyOf b) 1 ≡ false) → (eqb (familyOf b) 2 ≡ false) → (eqb (familyOf b) 3 ≡ false) → (eqb (familyOf b) 4 ≡ false) → (eqb (familyOf b) 5 ≡ false)

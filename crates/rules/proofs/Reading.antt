@@ -19,7 +19,7 @@ use Rattle.howmany.specs.Choose.{bit}
 use Rattle.howmany.specs.Numbering.{Numbering}
 use Rattle.howmany.proofs.Choices.{tri}
 use Rattle.howmany.proofs.Numberings.{carried}
-use Rattle.backward.specs.Reader.{Reader, Lawful, Before, valid, count, rank, unrank}
+use Rattle.backward.specs.Reader.{Reader, Lawful, Precedes, valid, count, rank, unrank}
 use Rattle.backward.specs.Watch.{neighbours}
 use Rattle.backward.proofs.Backward.{backward, letter, rest, none-valid}
 use Rattle.rules.specs.Points.{Step}
@@ -72,14 +72,14 @@ module _ (ss : List Step) (k : ℕ) (N : Named ss k) where
       go (inr (inl w)) = absurd (omega (arith, standing-up c b h l w))
       go (inr (inr e)) = absurd (omega (arith, ap standing (sym (byte b l) ∙ ap glyph e ∙ byte c h)))
 
-  pub order-on : (u v : List ℕ) → Known k (map pl u) → Known k (map pl v) → Decides u v → Before (map pl u) (map pl v)
+  pub order-on : (u v : List ℕ) → Known k (map pl u) → Known k (map pl v) → Decides u v → Precedes (map pl u) (map pl v)
   unfolding Decides
   order-on [] v g h d = absurd d
   order-on (b ∷ u) [] g h d = absurd d
   order-on (b ∷ u) (c ∷ v) g h (inl l) = inl (place-up b c (g .0) (h .0) l)
   order-on (b ∷ u) (c ∷ v) g h (inr d) = inr (ap pl (d .0), order-on u v (g .1) (h .1) (d .1))
 
-  pub order-off : (u v : List ℕ) → Known k (map pl u) → Known k (map pl v) → Before (map pl u) (map pl v) → Decides u v
+  pub order-off : (u v : List ℕ) → Known k (map pl u) → Known k (map pl v) → Precedes (map pl u) (map pl v) → Decides u v
   unfolding Decides
   order-off [] v g h d = absurd d
   order-off (b ∷ u) [] g h d = absurd d

@@ -1,10 +1,10 @@
--- The edge of a number, written from its end over a filled table. Assumes nothing.
+-- The edge of a number, next-letter from its end over a filled table. Assumes nothing.
 --
 --   seek-here, seek-more, seek-end, seek-in, seek-start    the loop of `seek`
 --   unr, unr-start, unr-step     the steps of the edge of a number, the last one first
 --   via-pos, walks-in                where there are walks, the step and the spot are inside
---   write-turn, write-done       a byte written in front of the others, and all of them
---   Writing, writing-start, reads-of, left-of, seek-needs, Written, written, picked, write-as, write-from, writing-end    the loop of `spell`
+--   write-turn, write-done       a byte next-letter in front of the others, and all of them
+--   Writing, writing-start, reads-of, left-of, seek-needs, NextLetter, next-letter, picked, write-as, write-from, writing-end    the loop of `spell`
 use mathlib.Core.Path.{_≡_, refl, sym, ap, ap₂, _∙_}
 use mathlib.Core.Bool.{Bool}
 use mathlib.Core.Option.{Option, some}
@@ -115,7 +115,7 @@ module _ (k : ℕ) (f : Wall) (sa sc : List ℕ) (pos : (i : ℕ) → i < k → 
   pub walks-in : (x y r : ℕ) → r < walksTo k f sa sc x y → T (wall f x y)
   walks-in x y r h = elim (tested (wall f x y)) [ yes p ↦ p | no q ↦ absurd (omega (arith, walks-out k f sa sc pos x y q)) ]
 
--- ---- bytes written at the end of a buffer
+-- ---- bytes next-letter at the end of a buffer
 
 write-start : (l t : List ℕ) (n : ℕ) → length l ≡ n → reverse (drop n l) ++ t ≡ t
 write-start l t n e = rw (drop-of-length-le l {i = n} (omega arith))
@@ -141,7 +141,7 @@ pub record Writing (lettered : Bool) (p : plans.Plan) (sa sc off val : List ℕ)
   pub room : length buf ≡ 128
   pub so-far : reverse (drop s buf) ++ map (glyphOf lettered) (unr (p .k) (p .wall) sa sc x y left) ≡ map (glyphOf lettered) (unr (p .k) (p .wall) sa sc (p .ex) (p .ey) r)
 
-pub record Written (lettered : Bool) (p : plans.Plan) (sa sc off val : List ℕ) (r : ℕ) (buf₀ buf : List ℕ) (x y cell s l rest : ℕ) : Type 0 where
+pub record NextLetter (lettered : Bool) (p : plans.Plan) (sa sc off val : List ℕ) (r : ℕ) (buf₀ buf : List ℕ) (x y cell s l rest : ℕ) : Type 0 where
   pub below : l < 8
   pub byte : l * 8 < 2 ^ 64
   pub least : 1 ≤ s
@@ -153,12 +153,12 @@ pub record Written (lettered : Bool) (p : plans.Plan) (sa sc off val : List ℕ)
   pub next : (v : ℕ) → v ≡ glyphOf lettered l → Writing lettered p sa sc off val r buf₀ (set buf (s - 1) v) (x - getD sa l 0) (y - getD sc l 0) (cell - getD off l 0) rest (s - 1)
 
 -- the same by numbers that the code has at hand
-pub write-as : {lettered : Bool} {p : plans.Plan} {sa sc off val : List ℕ} {r : ℕ} {buf₀ buf : List ℕ} {x y cell s l rest : ℕ} → Written lettered p sa sc off val r buf₀ buf x y cell s l rest → {a o v : ℕ}
+pub write-as : {lettered : Bool} {p : plans.Plan} {sa sc off val : List ℕ} {r : ℕ} {buf₀ buf : List ℕ} {x y cell s l rest : ℕ} → NextLetter lettered p sa sc off val r buf₀ buf x y cell s l rest → {a o v : ℕ}
     → a ≡ getD sa l 0 → o ≡ getD off l 0 → v ≡ glyphOf lettered l → Writing lettered p sa sc off val r buf₀ (set buf (s - 1) v) (x - a) (y - getD sc l 0) (cell - o) rest (s - 1)
 write-as t ea eo ev = rw (ea, eo) (t .next _ ev)
 
 -- the same by the cell that the step comes from
-pub write-from : {lettered : Bool} {p : plans.Plan} {sa sc off val : List ℕ} {r : ℕ} {buf₀ buf : List ℕ} {x y cell s l rest : ℕ} → Written lettered p sa sc off val r buf₀ buf x y cell s l rest → {from v : ℕ}
+pub write-from : {lettered : Bool} {p : plans.Plan} {sa sc off val : List ℕ} {r : ℕ} {buf₀ buf : List ℕ} {x y cell s l rest : ℕ} → NextLetter lettered p sa sc off val r buf₀ buf x y cell s l rest → {from v : ℕ}
     → from ≡ sourceOf sa off x cell l → v ≡ glyphOf lettered l → Writing lettered p sa sc off val r buf₀ (set buf (s - 1) v) (x - getD sa l 0) (y - getD sc l 0) from rest (s - 1)
 write-from {sa = sa} {off = off} {x = x} {cell = cell} {l = l} t e ev = rw (e ∙ source-in sa off x cell l (t .right)) (t .next _ ev)
 
@@ -199,8 +199,8 @@ module _ {lettered : Bool} {p : plans.Plan} {sa sc off val : List ℕ} {r : ℕ}
       pub seek-needs : Summed (p .k) sa off val x cell × (left < sum (broughtAt sa off val x cell) (p .k))
       seek-needs = (reads-summed reads-of (p .k) (omega arith), omega (arith, left-of, reads-sum reads-of (p .k) (omega arith)))
 
-      pub written : (l rest : ℕ) → Sought (via (p .k) (p .wall) sa sc x y) (p .k) left l rest → Written lettered p sa sc off val r buf₀ buf x y cell s l rest
-      written l rest so = record {
+      pub next-letter : (l rest : ℕ) → Sought (via (p .k) (p .wall) sa sc x y) (p .k) left l rest → NextLetter lettered p sa sc off val r buf₀ buf x y cell s l rest
+      next-letter l rest so = record {
         below = omega (arith, plan-of .most, so .falls .inside);
         byte = omega (arith, plan-of .most, so .falls .inside);
         least = omega (arith, w .x-le);
@@ -230,5 +230,5 @@ module _ {lettered : Bool} {p : plans.Plan} {sa sc off val : List ℕ} {r : ℕ}
           letters v ev = ap (map (glyphOf lettered)) (unr-step (p .k) (p .wall) sa sc (pos-of plan-of) x y left l rest inside-of so (vp .0) (vp .1)) ∙ ap (λ (z : ℕ). z ∷ map (glyphOf lettered) (unr (p .k) (p .wall) sa sc (x - getD sa l 0) (y - getD sc l 0) rest)) (sym ev)
 
       -- by the step that `seek` finds
-      pub picked : {l rest : ℕ} → Sought (broughtAt sa off val x cell) (p .k) left l rest → Written lettered p sa sc off val r buf₀ buf x y cell s l rest
-      picked {l} {rest} so = written l rest (reads-sought reads-of so)
+      pub picked : {l rest : ℕ} → Sought (broughtAt sa off val x cell) (p .k) left l rest → NextLetter lettered p sa sc off val r buf₀ buf x y cell s l rest
+      picked {l} {rest} so = next-letter l rest (reads-sought reads-of so)

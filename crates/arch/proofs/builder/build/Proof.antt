@@ -1,5 +1,5 @@
 -- `arch::builder::build` meets its contract: the spelt path is put to the front of the bytes, where there is room. Assumes nothing.
-use Rattle.arch.proofs.Writing.{spelt-whole, put-written}
+use Rattle.arch.proofs.Writing.{spelt-whole, put-in-front}
 use borrow.Author.Needs.{needs}
 use Rattle.arch.proofs.builder.build.Statement.{statement}
 use Rattle.arch.proofs.builder.build.Tie as tie
@@ -13,7 +13,7 @@ part-put-end c = spelt-whole (c .before .spell .ensures)
 
 returns : tie.Need-returns
 returns c =
-    put-written (c .before .before .before .before .before .before .spell .ensures) (c .before .before .before .before .before .before .before .before .before .pre .1) (c .before .before .before .before .before .before .before .before .before .args .out .now) _ (c .before .before .before .before .before .before .before .before .before .pre .2) _ (c .before .before .put .ensures)
+    put-in-front (c .before .before .before .before .before .before .spell .ensures) (c .before .before .before .before .before .before .before .before .before .pre .1) (c .before .before .before .before .before .before .before .before .before .args .out .now) _ (c .before .before .before .before .before .before .before .before .before .pre .2) _ (c .before .before .put .ensures)
 
 pub build-spec : {M : Type 1} → statement M
 build-spec =
