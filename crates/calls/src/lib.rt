@@ -1,4 +1,5 @@
-// Count, width, number and build for all seven families: each call is answered by the crate that has the block's family.
+// Count, width, number and build for all seven families: each call is answered by the crate that has the block's family. They are asked in
+// turn, `rows` first, which tells in the fewest instructions that a family is another crate's.
 ghost use mathlib.Core.Path.{_≡_};
 ghost use Prim.Native.Nat.{ℕ};
 ghost use lib.ListN.{length};
@@ -23,10 +24,10 @@ use lines::Wrote;
 pub fn count(block: &[u8]) -> Counted
     ensures { λ r. ⌜ countSays r ≡ reply (countAnswer (now (block .entry))) ⌝ }
 {
-    if let Counting::Mine(r) = arch::count(block) {
+    if let Counting::Mine(r) = rows::count(block) {
         return r;
     }
-    if let Counting::Mine(r) = rows::count(block) {
+    if let Counting::Mine(r) = arch::count(block) {
         return r;
     }
     if let Counting::Mine(r) = grid::count(block) {
@@ -66,10 +67,10 @@ pub fn number_all(
 ) -> Ranked
     ensures { λ r. ⌜ RankedAs (ranks (ranksAnswer (now (block .entry)) (cutFrom from (now (ends .entry)) (now (bytes .entry)))) (length (now (ends .entry))) (now (numbers .entry))) r (now (numbers .exit)) ⌝ }
 {
-    if let Numbering::Mine(r) = arch::number_all(block, bytes, from, ends, numbers) {
+    if let Numbering::Mine(r) = rows::number_all(block, bytes, from, ends, numbers) {
         return r;
     }
-    if let Numbering::Mine(r) = rows::number_all(block, bytes, from, ends, numbers) {
+    if let Numbering::Mine(r) = arch::number_all(block, bytes, from, ends, numbers) {
         return r;
     }
     if let Numbering::Mine(r) = grid::number_all(block, bytes, from, ends, numbers) {
@@ -109,10 +110,10 @@ pub fn number(block: &[u8], edge: &[u8]) -> Numbered
 pub fn build_all(block: &[u8], numbers: &[u64], steps: &mut [u8], ends: &mut [usize]) -> Wrote
     ensures { λ r. ⌜ WroteAs (lines (edgesAnswer (now (block .entry)) (now (numbers .entry))) (now (numbers .entry)) (now (steps .entry)) (now (ends .entry))) r (now (steps .exit)) (now (ends .exit)) ⌝ }
 {
-    if let Building::Mine(r) = arch::build_all(block, numbers, steps, ends) {
+    if let Building::Mine(r) = rows::build_all(block, numbers, steps, ends) {
         return r;
     }
-    if let Building::Mine(r) = rows::build_all(block, numbers, steps, ends) {
+    if let Building::Mine(r) = arch::build_all(block, numbers, steps, ends) {
         return r;
     }
     if let Building::Mine(r) = grid::build_all(block, numbers, steps, ends) {

@@ -4,7 +4,8 @@
 --   plain-next, plain-first  a cell from the one before it; the first cell of a row
 --   plain-under               there are no walks to a row beyond the column
 --   plain-most                no count before the end is above the end's
---   rem-one, place-one         a place is one row's and one column's
+--   same-rows                  as many rows are as many cells
+--   rem-one, place-one         a place is one row's and one column's; place-in, place-far: it lies in the table, behind the column in front
 --   rows-none, rows-more, rows-next, rows-filled    the rows so far: none yet, one cell more, a row more, and all of them
 --   below-is, across-is, first-is, first-one     what is read from the row below
 --   Along, row-.., along-.., next-..             the loop along a row
@@ -31,12 +32,12 @@ use Rattle.tables.specs.Table.{Slopes, Ends, Table}
 use Rattle.tables.specs.Plans.{strideFor, PreparedFor, walksFor}
 use Rattle.tables.specs.Filling.{Filled}
 use Rattle.rows.specs.Rows.{Rises, Plain, PlainStepsFor, Done, Rows, RowsFor, Rowing, Risen}
+use Rattle.tables.specs.declared.Wall.{Wall}
 use Rattle.tables.proofs.Walls.{wall-none}
 use Rattle.tables.proofs.Laws.{via-left, via-under, via-in, walks-start, walks-step, cap-ge}
 use Rattle.tables.proofs.Counts.{pos-of, walks-high}
 use Rattle.tables.proofs.Columns.{grow, one-more}
 use Rattle.tables.proofs.Phases.{ready-len}
-use Rattle.tables.specs.declared.Wall.{Wall}
 
 -- ---- the counts
 
@@ -123,6 +124,9 @@ module _ (k : ℕ) (f : Wall) (sa sc : List ℕ) where
 
 -- ---- places
 
+same-rows : (s a b : ℕ) → a ≡ b → a * s ≡ b * s
+same-rows s a b e = ap (λ (z : ℕ). z * s) e
+
 pub rem-one : (s a b r t : ℕ) → r < s → t < s → a * s + r ≡ b * s + t → (a ≡ b) × (r ≡ t)
 rem-one s a b r t l h e = go (decLt a b) (decLt b a)
   where
@@ -131,7 +135,7 @@ rem-one s a b r t l h e = go (decLt a b) (decLt b a)
     go (no p) (yes q) = absurd (omega (arith, one-more s b, grow s (b + 1) a (omega arith)))
     go (no p) (no q) =
         let g : a ≡ b = omega arith in
-        (g, omega (arith, ap (λ (z : ℕ). z * s) g))
+        (g, omega (arith, same-rows s a b g))
 
 pub place-one : (m ey u v x y : ℕ) → v ≤ ey → y ≤ ey → place m ey u v ≡ place m ey x y → (u ≡ x) × (v ≡ y)
 place-one m ey u v x y l h e =
@@ -249,18 +253,9 @@ module _ {k : ℕ} {f : Wall} {sa sc : List ℕ} {m ey n : ℕ} {val : List ℕ}
   across-is p ep l = go (y + i) y refl refl
     where
       go : (x z : ℕ) → x ≡ y + i → z ≡ y → getD val (p - strideOf m ey - 1) 0 ≡ across k f sa sc true x z
-      go zero z ex ez = let g : p - strideOf m ey - 1 ≡ 0 * strideOf m ey + (m - 1) = omega (arith, one-more (strideOf m ey) (y + i), at-zero) in rw g (margin-is 0 (m - 1) (omega arith))
-        where
-          at-zero : (y + i) * strideOf m ey ≡ 0
-          at-zero = let q : y + i ≡ 0 = omega arith in rw q (omega arith)
-      go (suc x) zero ex ez = let g : p - strideOf m ey - 1 ≡ (x + 1) * strideOf m ey + (m - 1) = omega (arith, one-more (strideOf m ey) (y + i), same) in rw g (margin-is (x + 1) (m - 1) (omega arith))
-        where
-          same : (y + i) * strideOf m ey ≡ (x + 1) * strideOf m ey
-          same = let q : y + i ≡ x + 1 = omega arith in ap (λ (t : ℕ). t * strideOf m ey) q
-      go (suc x) (suc z) ex ez = let g : p - strideOf m ey - 1 ≡ place m ey x z = omega (arith, one-more (strideOf m ey) (y + i), same) in rw g (rs .right x z (inl (omega arith)) (omega arith) (omega arith))
-        where
-          same : (y + i) * strideOf m ey ≡ (x + 1) * strideOf m ey
-          same = let q : y + i ≡ x + 1 = omega arith in ap (λ (t : ℕ). t * strideOf m ey) q
+      go zero z ex ez = let g : p - strideOf m ey - 1 ≡ 0 * strideOf m ey + (m - 1) = omega (arith, one-more (strideOf m ey) (y + i), same-rows (strideOf m ey) (y + i) 0 (omega arith)) in rw g (margin-is 0 (m - 1) (omega arith))
+      go (suc x) zero ex ez = let g : p - strideOf m ey - 1 ≡ (x + 1) * strideOf m ey + (m - 1) = omega (arith, one-more (strideOf m ey) (y + i), same-rows (strideOf m ey) (y + i) (x + 1) (omega arith)) in rw g (margin-is (x + 1) (m - 1) (omega arith))
+      go (suc x) (suc z) ex ez = let g : p - strideOf m ey - 1 ≡ place m ey x z = omega (arith, one-more (strideOf m ey) (y + i), same-rows (strideOf m ey) (y + i) (x + 1) (omega arith)) in rw g (rs .right x z (inl (omega arith)) (omega arith) (omega arith))
 
 -- the first cell of a row is the one before it on the diagonal
 module _ {k : ℕ} {f : Wall} {sa sc : List ℕ} {hi m ex ey : ℕ} {val : List ℕ} (pl : Slopes k sa sc hi m ex) (slope : hi ≡ 6) (three : Bool) (co : Plain three k f sa sc) {n y : ℕ} (rs : Rows k f sa sc m ey n val y 0) (in-row : y ≤ ey) (wide : ey ≤ ex) where
@@ -270,13 +265,10 @@ module _ {k : ℕ} {f : Wall} {sa sc : List ℕ} {hi m ex ey : ℕ} {val : List 
       go : (z : ℕ) → z ≡ y → getD val (p - strideOf m ey - 1) 0 ≡ walksTo k f sa sc (y + 0) y
       go zero e = absurd (h (sym e))
       go (suc z) e =
-          let g : p - strideOf m ey - 1 ≡ place m ey z z = omega (arith, one-more (strideOf m ey) y, same) in
+          let g : p - strideOf m ey - 1 ≡ place m ey z z = omega (arith, one-more (strideOf m ey) y, same-rows (strideOf m ey) y (z + 1) (omega arith)) in
           let q : y + 0 ≡ suc z = omega arith in
           let r : y ≡ suc z = sym e in
           rw (g, q) (rs .right z z (inl (omega arith)) (omega arith) (omega arith) ∙ sym (plain-first k f sa sc pl slope three co z (omega arith)) ∙ ap (walksTo k f sa sc (suc z)) e)
-        where
-          same : y * strideOf m ey ≡ (z + 1) * strideOf m ey
-          same = let q : y ≡ z + 1 = omega arith in ap (λ (t : ℕ). t * strideOf m ey) q
 
   pub first-one : y ≡ 0 → 1 ≡ walksTo k f sa sc (y + 0) y
   first-one e = let q : y + 0 ≡ 0 = omega arith in rw (q, e) (sym (walks-start k f sa sc (pos-of pl) 0))
@@ -291,10 +283,10 @@ pub record Along (p : plans.Plan) (sa sc off : List ℕ) (y : ℕ) (val : List �
   pub at : cell ≡ place (p .deep) (p .ey) (y + i) y
   pub is : sum ≡ walksTo (p .k) (p .wall) sa sc (y + i) y
 
-place-in : (m ex ey u v : ℕ) → u ≤ ex → v ≤ ey → place m ey u v + 1 ≤ (ex + 2) * strideOf m ey
+pub place-in : (m ex ey u v : ℕ) → u ≤ ex → v ≤ ey → place m ey u v + 1 ≤ (ex + 2) * strideOf m ey
 place-in m ex ey u v l h = omega (arith, one-more (strideOf m ey) (u + 1), grow (strideOf m ey) (u + 1 + 1) (ex + 2) (omega arith))
 
-place-far : (m ey u v : ℕ) → strideOf m ey + m ≤ place m ey u v
+pub place-far : (m ey u v : ℕ) → strideOf m ey + m ≤ place m ey u v
 place-far m ey u v = omega (arith, grow (strideOf m ey) 1 (u + 1) (omega arith))
 
 module _ {p : plans.Plan} {sa sc off : List ℕ} {y : ℕ} {val : List ℕ} (w : Rowing p sa sc off val y) where
@@ -324,7 +316,7 @@ module _ {p : plans.Plan} {sa sc off : List ℕ} {y : ℕ} {val : List ℕ} (w :
   pub along-start : (cell sum : ℕ) → cell ≡ place (p .deep) (p .ey) y y → sum ≡ pick (eqb y 0) 1 (getD val (cell - strideFor p - 1) 0)
       → Along p sa sc off y (set val cell sum) cell sum 0
   along-start cell sum ep es =
-      let q : cell ≡ place (p .deep) (p .ey) (y + 0) y = omega (arith, ep, ap (λ (u : ℕ). (u + 1) * strideFor p) same) in
+      let q : cell ≡ place (p .deep) (p .ey) (y + 0) y = omega (arith, ep, same-rows (strideFor p) (y + 0 + 1) (y + 1) (omega arith)) in
       record {
         ready = ready-len (w .ready) (length-set val cell sum);
         steps = w .steps;
@@ -334,9 +326,6 @@ module _ {p : plans.Plan} {sa sc off : List ℕ} {y : ℕ} {val : List ℕ} (w :
         at = q;
         is = first-value cell sum ep es;
       }
-    where
-      same : y + 0 ≡ y
-      same = omega arith
 
 module _ {p : plans.Plan} {sa sc off : List ℕ} {y : ℕ} {val : List ℕ} {cell sum i : ℕ} (a : Along p sa sc off y val cell sum i) where
   column-in : y + i ≤ p .ex
@@ -356,10 +345,7 @@ module _ {p : plans.Plan} {sa sc off : List ℕ} {y : ℕ} {val : List ℕ} {cel
 
   module _ (l : i < p .ex - p .ey) where
     next-place : cell + strideFor p ≡ place (p .deep) (p .ey) (y + (i + 1)) y
-    next-place = omega (arith, a .at, one-more (strideFor p) (y + i + 1), same)
-      where
-        same : (y + i + 1 + 1) * strideFor p ≡ (y + (i + 1) + 1) * strideFor p
-        same = let e : y + i + 1 + 1 ≡ y + (i + 1) + 1 = omega arith in ap (λ (u : ℕ). u * strideFor p) e
+    next-place = omega (arith, a .at, one-more (strideFor p) (y + i + 1), same-rows (strideFor p) (y + i + 1 + 1) (y + (i + 1) + 1) (omega arith))
 
     pub next-in : cell + strideFor p < length val
     next-in = omega (arith, next-place, place-in (p .deep) (p .ex) (p .ey) (y + (i + 1)) y (omega (arith, a .inside, a .steps .wide)) (a .inside), a .ready .room)

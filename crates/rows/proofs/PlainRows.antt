@@ -2,48 +2,61 @@
 --
 --   east-up                         how far up E goes, from how far N does
 --   back-small, end-at, cells-at    what `north_of`, `end_of` and `cells_of` sum fits
+--   cell-in, cell-is, all-le, brings    what a cell holds, and what stands as far back as a step leads
 --   Near, near                      what N and E bring to a cell can be read, and fits
---   row-place, row-start, row-over, row-next    the loop along a row
---   read-start                      the loop of `read`, before its first turn
---   not-left, not-north, not-east, not-across    where `read` finds that the bytes are no edge
---   Taken, north-taken, east-taken, across-taken, across-far    a step read
---   Given, Spelt, spelt-start, spelt-end, spelt-near, spelt-room    the loop of `spell`
---   Added, north-added, east-added, across-added    a step written
+--   PlainAlong                      the loop along a row, by the plan of families 1 and 3
+--   Begins, row-begins, row-start   its first cell
+--   Filling, filling-in, filling-far, filling-next, row-over, row-next    a cell more
+--   Here, Led, barren, led-start, led-out, led-end    the loop of `read`
+--   Reading, reading-in, reading-back, reading-near, north-led, east-led, across-led, east-fits, across-fits    a step read
+--   no-step, across-left            where `read` finds no step of the job
+--   Given, Spelt, spelt-start, spelt-end    the loop of `spell`
+--   Spelling, spelling-back, spelling-near, spelling-room, Added, north-added, east-added, across-added    a step written
 use mathlib.Core.Path.{_≡_, refl, sym, ap, _∙_, subst}
-use mathlib.Core.Bool.{Bool, true, false, not, _&&_}
+use mathlib.Core.Bool.{Bool, true, false, not}
 use mathlib.Core.List.{List}
 use Prim.Native.Nat.{ℕ, _+_, _-_, _*_, _^_, _≤_, _<_}
 use native.Mathlib.Omega.{arith}
-use native.Mathlib.Decide.{decLt, ℕ-discrete}
-use lib.Dec.{T, ltb, leb, eqb, leb→le, eqb→eq}
+use native.Mathlib.Decide.{decLe, decLt, ℕ-discrete}
+use lib.Dec.{T, ltb, eqb, eqb→eq}
 use lib.ListN.{length, getD, set, drop}
-use borrow.Author.Tests.{eq-eqb, le-leb}
+use borrow.Author.Tests.{eq-eqb}
 use Rattle.howmany.specs.Choose.{pick, bit}
 use Rattle.howmany.specs.Sum.{sum}
-use Rattle.howmany.proofs.Sums.{sum-mono}
-use Rattle.howmany.proofs.Choices.{is-true, holds, and-left, and-right}
-use Rattle.lines.specs.declared.Rank.the-variants.{NoEdge}
+use Rattle.howmany.proofs.Sums.{sum-none, sum-mono}
+use Rattle.howmany.proofs.Choices.{is-true, is-false, holds, and-left, and-right}
+use Rattle.backward.specs.Grid.{grid, paths}
+use Rattle.backward.proofs.Backward.{rank-below}
+use Rattle.backward.proofs.Grids.{grid-lawful}
+use Rattle.lines.specs.declared.Rank.the-variants.{At, NoEdge}
 use Rattle.letters.specs.Letters.{placeOf, glyphOf}
 use Rattle.letters.proofs.Glyphs.{place-n, place-e, place-d, place-no, glyph-n, glyph-e, glyph-d}
 use Rattle.rows.specs.declared.plain.Plain.{Plain}
-use Rattle.tables.specs.Form.{wall, via, unwalled}
-use Rattle.tables.specs.Cells.{place, sourceOf}
-use Rattle.tables.specs.Edges.{Reads, Sought}
+use Rattle.tables.specs.Form.{wall, stepsIn, walksTo, via}
+use Rattle.tables.specs.Cells.{capOf, place}
+use Rattle.tables.specs.Edges.{walkEnd, Sought}
 use Rattle.rows.specs.Plains.{plainPlan, plainRight, plainUp, plainBack, plainEnd, plainWalks, PlainRank, plainEdge, rises, isAcross, PlainSizes, PlainReadable, Within}
 use Rattle.tables.specs.Plans.{strideFor, cellsFor}
 use Rattle.rows.specs.Rows.{Rowing}
+use Rattle.tables.specs.declared.Wall.{Wall}
 use Rattle.tables.proofs.Walls.{wall-none}
-use Rattle.tables.proofs.Laws.{sum-more, mul-bound}
+use Rattle.tables.proofs.Laws.{sum-more, mul-bound, onward, via-left, via-under, walks-start, walks-step, cell-value}
 use Rattle.tables.proofs.Counts.{pos-of}
-use Rattle.tables.proofs.Columns.{source-in}
+use Rattle.tables.proofs.Columns.{source-in, grow}
 use Rattle.tables.proofs.Phases.{last-row}
-use Rattle.rows.proofs.Along.{Along, along-start, along-over, along-next}
-use Rattle.tables.proofs.Numbers.{Walking, walking-start, Stepped, stepped, step-as, not-letter, not-right, not-up}
-use Rattle.tables.proofs.Building.{Writing, written, write-as, writing-start, writing-end, reads-of, left-of, seek-here, seek-end}
+use Rattle.tables.proofs.Reading.{wordTo, ok}
+use Rattle.tables.proofs.Numbers.{Stand, reads-at, Walking, walking-start, stepped, step-as, not-letter, not-right, not-up, not-start, walking-end}
+use Rattle.tables.proofs.Building.{Writing, next-letter, write-as, writing-start, writing-end, left-of, seek-here, seek-end}
+use Rattle.rows.proofs.Plains.{plain-steps}
+use Rattle.rows.proofs.Along.{Along, place-one, place-in, place-far, row-at, row-small, row-far, along-start, along-in, along-far, next-in, next-small, along-over, along-next}
 
 two-there : (d : Bool) → (2 ≤ pick d 3 2) × (pick d 3 2 ≤ 8)
 two-there true = (omega arith, omega arith)
 two-there false = (omega arith, omega arith)
+
+two-right : (d : Bool) → 2 ≤ pick d 2 100
+two-right true = omega arith
+two-right false = omega arith
 
 third-there : (d : Bool) → 2 < pick d 3 2 → d ≡ true
 third-there true l = refl
@@ -77,8 +90,15 @@ module _ (c : Plain) where
       either true = w .n-most
       either false = w .m-most
 
+  -- how many walks lead to (x, y), and how many of them by each last step
+  abbrev walks : ℕ → ℕ → ℕ
+  walks x y = walksTo (plainPlan c .k) (plainPlan c .wall) (plainRight c) (plainUp c) x y
+
   abbrev steps-via : ℕ → ℕ → ℕ → ℕ
-  steps-via x y = via (plainPlan c .k) unwalled (plainRight c) (plainUp c) x y
+  steps-via x y = via (plainPlan c .k) (plainPlan c .wall) (plainRight c) (plainUp c) x y
+
+  level : (x y : ℕ) → T (wall (plainPlan c .wall) x y)
+  level x y = wall-none (plainPlan c .wall) x y refl
 
   -- D's cells lie as far back as N's and E's together
   across-back : {n o : ℕ} → n ≡ getD (plainBack c) 0 0 → o ≡ getD (plainBack c) 1 0 → c .diagonal ≡ true → n + o ≡ getD (plainBack c) 2 0
@@ -98,151 +118,279 @@ pub record Near (c : Plain) (val : List ℕ) (x y cell n o : ℕ) : Type 0 where
   pub both : getD val (cell - n) 0 + getD val (cell - o) 0 ≡ sum (steps-via c x y) 2
   pub fits : getD val (cell - n) 0 + getD val (cell - o) 0 < 2 ^ 64
 
-pub near : (c : Plain) {val : List ℕ} {x y cell n o : ℕ} → Reads (plainPlan c .k) unwalled (plainRight c) (plainUp c) (plainBack c) val x y cell → 1 ≤ x
-    → n ≡ getD (plainBack c) 0 0 → o ≡ getD (plainBack c) 1 0 → Near c val x y cell n o
-unfolding sum
-near c {val} {x} {y} {cell} {n} {o} rd px en eo = record {
-  north-back = omega (arith, en, rd .back 0 first px);
-  east-back = omega (arith, eo, rd .back 1 second px);
-  north-in = omega (arith, at-north, rd .in-val 0 first);
-  east-in = omega (arith, at-east, rd .in-val 1 second);
-  north-is = is-north;
-  east-is = is-east;
-  one = omega (arith, is-north);
-  both = omega (arith, is-north, is-east);
-  fits = omega (arith, is-north, is-east, sum-mono (steps-via c x y) 2 (plainPlan c .k) (two-there (c .diagonal) .0), rd .fits);
-}
-  where
-    first : 0 < plainPlan c .k
-    first = omega (arith, two-there (c .diagonal))
+-- what stands as far back as a step leads is what the step brings: where it leads out of the grid, a zero
+module _ (c : Plain) {val : List ℕ} (fu : PlainReadable c val) {x y cell : ℕ} (st : Stand (plainPlan c) (plainRight c) (plainUp c) x y cell) where
+  pub cell-in : cell < length val
+  cell-in = omega (arith, st .at, place-in 1 (c .n + c .m) (plainPlan c .ey) x y (st .end) (st .ends .0), fu .ready .room)
 
-    second : 1 < plainPlan c .k
-    second = omega (arith, two-there (c .diagonal))
+  pub cell-is : getD val cell 0 ≡ walks c x y
+  cell-is = cell-value _ (getD (fu .solid .ov) cell 0) _ (rw (st .at) (fu .solid .flags .right x y (omega (arith, st .end)) (st .ends))) (st .fits)
 
-    at-north : cell - n ≡ sourceOf (plainRight c) (plainBack c) x cell 0
-    at-north = ap (λ (z : ℕ). cell - z) en ∙ sym (source-in (plainRight c) (plainBack c) x cell 0 px)
+  pub all-le : sum (steps-via c x y) (plainPlan c .k) ≤ walks c x y
+  all-le = elim (decLt 0 x) [
+    | yes px ↦ omega (arith, walks-step (plainPlan c .k) (plainPlan c .wall) (plainRight c) (plainUp c) (pos-of (fu .ready .slopes)) x y px (level c x y))
+    | no z ↦ omega (
+      arith,
+      sum-none (steps-via c x y) (plainPlan c .k)
+          (λ i h. via-left (plainPlan c .k) (plainPlan c .wall) (plainRight c) (plainUp c) x y i (omega (arith, pos-of (fu .ready .slopes) i h))),
+    )
+  ]
 
-    at-east : cell - o ≡ sourceOf (plainRight c) (plainBack c) x cell 1
-    at-east = ap (λ (z : ℕ). cell - z) eo ∙ sym (source-in (plainRight c) (plainBack c) x cell 1 px)
+  pub brings : (l : ℕ) → l < plainPlan c .k → {o : ℕ} → o ≡ getD (plainBack c) l 0 → o ≤ cell → getD val (cell - o) 0 ≡ steps-via c x y l
+  brings l h {o} eo far = elim (decLe (getD (plainRight c) l 0) x) [
+    | yes a ↦ ap (λ (z : ℕ). getD val z 0) (ap (λ (z : ℕ). cell - z) eo ∙ sym (source-in (plainRight c) (plainBack c) x cell l a))
+        ∙ reads-at fu st (omega (arith, pos-of (fu .ready .slopes) l h)) (level c x y) .says l h
+    | no a ↦ cell-value _ (getD (fu .solid .ov) (cell - o) 0) 0 (fu .solid .flags .front (cell - o) (in-front (omega arith))) (omega arith)
+        ∙ sym (via-left (plainPlan c .k) (plainPlan c .wall) (plainRight c) (plainUp c) x y l (omega arith))
+  ]
+    where
+      in-front : x < getD (plainRight c) l 0 → cell - o < strideFor (plainPlan c)
+      in-front a = omega (
+        arith,
+        eo,
+        far,
+        st .at,
+        st .ends .0,
+        fu .ready .offs .is l (omega (arith, two-there (c .diagonal))),
+        grow (strideFor (plainPlan c)) (x + 1) (getD (plainRight c) l 0) (omega arith),
+      )
 
-    is-north : getD val (cell - n) 0 ≡ steps-via c x y 0
-    is-north = ap (λ (j : ℕ). getD val j 0) at-north ∙ rd .says 0 first
+  pub near : {n o : ℕ} → n ≡ getD (plainBack c) 0 0 → o ≡ getD (plainBack c) 1 0 → Near c val x y cell n o
+  unfolding sum
+  near {n} {o} en eo = record {
+    north-back = back-n;
+    east-back = back-e;
+    north-in = omega (arith, cell-in);
+    east-in = omega (arith, cell-in);
+    north-is = is-north;
+    east-is = is-east;
+    one = omega (arith, is-north);
+    both = omega (arith, is-north, is-east);
+    fits = omega (arith, is-north, is-east, sum-mono (steps-via c x y) 2 (plainPlan c .k) (two-there (c .diagonal) .0), all-le, st .fits);
+  }
+    where
+      back-n : n ≤ cell
+      back-n = omega (arith, en, st .at, place-far 1 (plainPlan c .ey) x y, one-up (ltb (c .n) (c .m)) _ refl)
 
-    is-east : getD val (cell - o) 0 ≡ steps-via c x y 1
-    is-east = ap (λ (j : ℕ). getD val j 0) at-east ∙ rd .says 1 second
+      back-e : o ≤ cell
+      back-e = omega (arith, eo, st .at, place-far 1 (plainPlan c .ey) x y, one-up (ltb (c .n) (c .m)) _ refl)
+
+      is-north : getD val (cell - n) 0 ≡ steps-via c x y 0
+      is-north = brings 0 (omega (arith, two-there (c .diagonal))) en back-n
+
+      is-east : getD val (cell - o) 0 ≡ steps-via c x y 1
+      is-east = brings 1 (omega (arith, two-there (c .diagonal))) eo back-e
 
 -- ---- the loop along a row
 
-module _ (c : Plain) {s : ℕ} (es : s ≡ strideFor (plainPlan c)) where
-  pub row-place : (y : ℕ) → (y + 1) * s + 1 + y ≡ place 1 (plainPlan c .ey) y y
-  row-place y = rw es (omega arith)
+abbrev pub PlainAlong : Plain → ℕ → List ℕ → ℕ → ℕ → ℕ → Type 0
+PlainAlong c y val cell sum i = Along (plainPlan c) (plainRight c) (plainUp c) (plainBack c) y val cell sum i
 
-  pub row-start : {val : List ℕ} {y : ℕ} → Rowing (plainPlan c) (plainRight c) (plainUp c) (plainBack c) val y → (cell sum : ℕ) → cell ≡ place 1 (plainPlan c .ey) y y
-      → sum ≡ pick (eqb y 0) 1 (getD val (cell - s - 1) 0) → Along (plainPlan c) (plainRight c) (plainUp c) (plainBack c) y (set val cell sum) cell sum 0
-  row-start {val} {y} w cell sum ep e = along-start w cell sum ep (e ∙ ap (λ (z : ℕ). pick (eqb y 0) 1 (getD val (cell - z - 1) 0)) es)
+-- where row y begins, if s is how many cells a column has
+pub record Begins (c : Plain) (val : List ℕ) (y s : ℕ) : Type 0 where
+  pub at : (y + 1) * s + 1 + y ≡ place 1 (plainPlan c .ey) y y
+  pub small : (y + 1) * s + 1 + y < 3712
+  pub inside : (y + 1) * s + 1 + y < length val
+  pub far : s < (y + 1) * s + 1 + y
 
-  module _ {val : List ℕ} {y cell sum i : ℕ} (a : Along (plainPlan c) (plainRight c) (plainUp c) (plainBack c) y val cell sum i) (l : i < c .n + c .m - plainPlan c .ey)
-      (b t : ℕ) (eb : b ≡ getD val (cell - 1) 0) (et : t ≡ pick (c .diagonal) (getD val (cell - s - 1) 0) 0) where
-    third : t ≡ pick (eqb (plainPlan c .k) 3) (getD val (cell - strideFor (plainPlan c) - 1) 0) 0
-    third = et ∙ go (c .diagonal)
+module _ (c : Plain) {s : ℕ} (es : s ≡ strideFor (plainPlan c)) {val : List ℕ} {y : ℕ} (w : Rowing (plainPlan c) (plainRight c) (plainUp c) (plainBack c) val y) where
+  pub row-begins : Begins c val y s
+  row-begins = record { at = at; small = omega (arith, at, row-small w); inside = omega (arith, at, row-at w); far = omega (arith, at, es, row-far w) }
+    where
+      at : (y + 1) * s + 1 + y ≡ place 1 (plainPlan c .ey) y y
+      at = rw es (omega arith)
+
+  pub row-start : (sum : ℕ) → sum ≡ pick (eqb y 0) 1 (getD val ((y + 1) * s + 1 + y - s - 1) 0)
+      → PlainAlong c y (set val ((y + 1) * s + 1 + y) sum) ((y + 1) * s + 1 + y) sum 0
+  row-start sum e =
+      let cell : ℕ = (y + 1) * s + 1 + y in
+      along-start w cell sum (row-begins .at) (e ∙ ap (λ (z : ℕ). pick (eqb y 0) 1 (getD val (cell - z - 1) 0)) es)
+
+-- a turn: the row goes on, and s is how many cells a column has
+pub record Filling (c : Plain) (y : ℕ) (val : List ℕ) (cell sum i s : ℕ) : Type 0 where
+  pub along : PlainAlong c y val cell sum i
+  pub more : i < c .n + c .m - plainPlan c .ey
+  pub stride : s ≡ strideFor (plainPlan c)
+
+module _ {c : Plain} {y : ℕ} {val : List ℕ} {cell sum i s : ℕ} (t : Filling c y val cell sum i s) where
+  pub filling-in : cell < length val
+  filling-in = along-in (t .along)
+
+  pub filling-far : s < cell
+  filling-far = omega (arith, t .stride, along-far (t .along))
+
+  pub filling-next : (cell + s < 3712) × (cell + s < length val)
+  filling-next = (omega (arith, t .stride, next-small (t .along) (t .more)), omega (arith, t .stride, next-in (t .along) (t .more)))
+
+  module _ (b d : ℕ) (eb : b ≡ getD val (cell - 1) 0) (ed : d ≡ pick (c .diagonal) (getD val (cell - s - 1) 0) 0) where
+    third : d ≡ pick (eqb (plainPlan c .k) 3) (getD val (cell - strideFor (plainPlan c) - 1) 0) 0
+    third = ed ∙ go (c .diagonal)
       where
-        go : (d : Bool) → pick d (getD val (cell - s - 1) 0) 0 ≡ pick (eqb (pick d 3 2) 3) (getD val (cell - strideFor (plainPlan c) - 1) 0) 0
-        go true = ap (λ (z : ℕ). getD val (cell - z - 1) 0) es
+        go : (b : Bool) → pick b (getD val (cell - s - 1) 0) 0 ≡ pick (eqb (pick b 3 2) 3) (getD val (cell - strideFor (plainPlan c) - 1) 0) 0
+        go true = ap (λ (z : ℕ). getD val (cell - z - 1) 0) (t .stride)
         go false = refl
 
-    pub row-over : 2 ^ 64 ≤ sum + b + t → 2 ^ 64 ≤ plainWalks c
-    row-over h = along-over a l b t eb third h
+    pub row-over : 2 ^ 64 ≤ sum + b + d → 2 ^ 64 ≤ plainWalks c
+    row-over h = along-over (t .along) (t .more) b d eb third h
 
-    pub row-next : (q v : ℕ) → q ≡ cell + s → v ≡ sum + b + t → Along (plainPlan c) (plainRight c) (plainUp c) (plainBack c) y (set val q v) q v (i + 1)
-    row-next q v eq ev = along-next a l b t eb third q v (omega arith) ev
+    pub row-next : {v : ℕ} → v ≡ sum + b + d → PlainAlong c y (set val (cell + s) v) (cell + s) v (i + 1)
+    row-next {v} ev = along-next (t .along) (t .more) b d eb third (cell + s) v (omega (arith, t .stride)) ev
 
--- ---- the loop of `read`
+-- ---- the loop of `read`, which keeps neither column nor height
 
--- one step back, by (a, u) and o cells, with v more summed
-pub record Taken (c : Plain) (val e : List ℕ) (acc x y cell i a u o v : ℕ) : Type 0 where
-  pub fewer : i - 1 < i
-  pub far : o ≤ cell
-  pub fits : acc + v < 2 ^ 64
-  pub next : {t : ℕ} → t ≡ acc + v → Walking true (plainPlan c) (plainRight c) (plainUp c) (plainBack c) val e t (x - a) (y - u) (cell - o) (i - 1)
+-- the letters from i on lead back from the end to the cell, which is that of some (x, y)
+pub record Here (c : Plain) (val e : List ℕ) (acc cell i : ℕ) : Type 0 where
+  pub x : ℕ
+  pub y : ℕ
+  pub walking : Walking true (plainPlan c) (plainRight c) (plainUp c) (plainBack c) val e acc x y cell i
 
-pub read-start : (c : Plain) {val e : List ℕ} → PlainReadable c val → {y cell : ℕ} → y ≡ plainPlan c .ey → cell ≡ plainEnd c
-    → Walking true (plainPlan c) (plainRight c) (plainUp c) (plainBack c) val e 0 (c .n + c .m) y cell (length e)
-read-start c fu ey ep = rw ey (walking-start fu ep)
+-- the same, or they lead to a cell that no walk leads to
+pub record Led (c : Plain) (val e : List ℕ) (acc cell i : ℕ) : Type 0 where
+  pub full : PlainReadable c val
+  pub i-le : i ≤ length e
+  pub inside : cell < length val
+  pub none : getD val cell 0 ≡ 0 → PlainRank c e NoEdge
+  pub some : (getD val cell 0 ≡ 0 → ⊥) → Here c val e acc cell i
 
-module _ (c : Plain) {val e : List ℕ} {acc x y cell i : ℕ} (w : Walking true (plainPlan c) (plainRight c) (plainUp c) (plainBack c) val e acc x y cell i) (h : 0 < i) where
-  level : T (wall unwalled x y)
-  level = wall-none unwalled x y refl
+-- no string leads to where no walk does
+barren : (k : ℕ) (f : Wall) (sa sc : List ℕ) → ((i : ℕ) → i < k → 1 ≤ getD sa i 0) → (e : List ℕ) (i x y : ℕ) → walksTo k f sa sc x y ≡ 0 → ok true k f sa sc e i x y ≡ false
+unfolding ok walksTo paths
+barren k f sa sc pos e i x y z =
+    let G = stepsIn k f sa sc in
+    is-false (ok true k f sa sc e i x y) (λ t. omega (arith, z, rank-below (grid G) (grid-lawful G (onward k f sa sc pos)) (wordTo (placeOf true) e i) (walkEnd k f sa sc x y) t))
 
-  pub not-left : x < 1 → PlainRank c e NoEdge
-  not-left o = elim (decLt (placeOf true (getD e (i - 1) 0)) (plainPlan c .k)) [
-    | yes b ↦ not-right w h refl level (omega (arith, pos-of (w .full .ready .slopes) (placeOf true (getD e (i - 1) 0)) b))
-    | no b ↦ not-letter w h refl level (omega arith)
+module _ (c : Plain) {val e : List ℕ} where
+  led : {acc x y cell i : ℕ} → Walking true (plainPlan c) (plainRight c) (plainUp c) (plainBack c) val e acc x y cell i → Led c val e acc cell i
+  led {acc} {x} {y} {cell} {i} w = record {
+    full = w .full;
+    i-le = w .i-le;
+    inside = cell-in c (w .full) (w .stand);
+    none = λ z. sym (w .same) ∙ barren (plainPlan c .k) (plainPlan c .wall) (plainRight c) (plainUp c) (pos-of (w .full .ready .slopes)) e i x y (sym (cell-is c (w .full) (w .stand)) ∙ z);
+    some = λ n. record { x = x; y = y; walking = w };
+  }
+
+  pub led-start : PlainReadable c val → {cell : ℕ} → cell ≡ plainEnd c → Led c val e 0 cell (length e)
+  led-start fu ep = led (walking-start fu ep)
+
+  module _ {acc cell i : ℕ} (w : Led c val e acc cell i) (h : i ≤ 0) where
+    pub led-out : (cell ≡ strideFor (plainPlan c) + 1 → ⊥) → PlainRank c e NoEdge
+    led-out o = elim (ℕ-discrete (getD val cell 0) 0) [
+      | yes z ↦ w .none z
+      | no n ↦ let at = w .some n in not-start (at .walking) h (apart at)
+    ]
+      where
+        apart : (at : Here c val e acc cell i) → 0 < at .x + at .y
+        apart at = elim (decLt 0 (at .x + at .y)) [
+          | yes l ↦ l
+          | no l ↦ let z : at .x ≡ 0 = omega arith in
+              absurd (o (omega (arith, at .walking .stand .at, ap (λ (u : ℕ). (u + 1) * strideFor (plainPlan c)) z)))
+        ]
+
+    pub led-end : cell ≡ strideFor (plainPlan c) + 1 → PlainRank c e (At acc)
+    led-end q =
+        let at = w .some (λ z. omega (arith, z, one)) in
+        let p = place-one 1 (plainPlan c .ey) (at .x) (at .y) 0 0 (at .walking .stand .ends .0) (omega arith) (sym (at .walking .stand .at) ∙ q ∙ omega arith) in
+        walking-end (at .walking) h (omega (arith, p .0, p .1))
+      where
+        one : getD val cell 0 ≡ 1
+        one =
+            let e : cell ≡ place 1 (plainPlan c .ey) 0 0 = omega arith in
+            cell-value _ (getD (w .full .solid .ov) cell 0) 1
+            (rw e (w .full .solid .flags .right 0 0 (omega arith) (omega arith, omega (arith, plain-steps c .wide))
+            ∙ ap capOf (walks-start (plainPlan c .k) (plainPlan c .wall) (plainRight c) (plainUp c) (pos-of (w .full .ready .slopes)) 0)))
+            (omega arith)
+
+-- a turn: a letter is left, and n and o are how far back the cells of N and E lie
+pub record Reading (c : Plain) (val e : List ℕ) (acc cell i n o : ℕ) : Type 0 where
+  pub here : Here c val e acc cell i
+  pub more : 0 < i
+  pub north : n ≡ getD (plainBack c) 0 0
+  pub east : o ≡ getD (plainBack c) 1 0
+
+module _ {c : Plain} {val e : List ℕ} {acc cell i n o : ℕ} (t : Reading c val e acc cell i n o) where
+  abbrev x : ℕ
+  x = t .here .x
+
+  abbrev y : ℕ
+  y = t .here .y
+
+  abbrev walking : Walking true (plainPlan c) (plainRight c) (plainUp c) (plainBack c) val e acc x y cell i
+  walking = t .here .walking
+
+  -- a step back, with v more summed
+  next : (l : ℕ) → l ≡ placeOf true (getD e (i - 1) 0) → l < plainPlan c .k → {b v s : ℕ} → b ≡ getD (plainBack c) l 0 → b ≤ cell
+      → v ≡ sum (steps-via c x y) l → s ≡ acc + v → Led c val e s (cell - b) (i - 1)
+  next l q k {b} {v} {s} eb far ev es = elim (decLe (getD (plainRight c) l 0) x) [
+    | yes a ↦ elim (decLe (getD (plainUp c) l 0) y) [
+      | yes u ↦ led c (step-as (stepped walking (t .more) q (level c x y) k a u) refl refl eb ev es)
+      | no u ↦ out (not-up walking (t .more) q (level c x y) a (omega arith)) (via-under (plainPlan c .k) (plainPlan c .wall) (plainRight c) (plainUp c) x y l a (omega arith))
+    ]
+    | no a ↦ out (not-right walking (t .more) q (level c x y) (omega arith)) (via-left (plainPlan c .k) (plainPlan c .wall) (plainRight c) (plainUp c) x y l (omega arith))
   ]
+    where
+      out : PlainRank c e NoEdge → steps-via c x y l ≡ 0 → Led c val e s (cell - b) (i - 1)
+      out r z = record {
+        full = walking .full;
+        i-le = omega (arith, walking .i-le);
+        inside = omega (arith, cell-in c (walking .full) (walking .stand));
+        none = λ _. r;
+        some = λ f. absurd (f (brings c (walking .full) (walking .stand) l k eb far ∙ z));
+      }
 
-  taken : {l : ℕ} → Stepped true (plainPlan c) (plainRight c) (plainUp c) (plainBack c) val e acc x y cell i l → {a u o v : ℕ}
-      → a ≡ getD (plainRight c) l 0 → u ≡ getD (plainUp c) l 0 → o ≡ getD (plainBack c) l 0 → v ≡ sum (steps-via c x y) l → Taken c val e acc x y cell i a u o v
-  taken s ea eu eo ev = record { fewer = s .fewer; far = omega (arith, eo, s .far); fits = s .fits ev; next = λ et. step-as s ea eu eo ev et }
+  -- what steps bring fits beside what is summed
+  more-fits : (l : ℕ) → l ≤ plainPlan c .k → acc + sum (steps-via c x y) l < 2 ^ 64
+  more-fits l k = omega (arith, sum-mono (steps-via c x y) l (plainPlan c .k) k, all-le c (walking .full) (walking .stand), walking .under, walking .full .fits)
 
-  module _ (px : 1 ≤ x) where
-    module _ (b : getD e (i - 1) 0 ≡ 78) {u : ℕ} (eu : u ≡ getD (plainUp c) 0 0) where
-      pub not-north : y < u → PlainRank c e NoEdge
-      not-north o = not-up w h (place-n true _ refl b) level px (omega (arith, eu))
+  pub reading-in : i - 1 < length e
+  reading-in = omega (arith, walking .i-le, t .more)
 
-      pub north-taken : u ≤ y → {o : ℕ} → o ≡ getD (plainBack c) 0 0 → Taken c val e acc x y cell i 1 u o 0
-      unfolding sum
-      north-taken l eo = taken (stepped w h (place-n true _ refl b) level (omega (arith, two-there (c .diagonal))) px (omega (arith, eu))) refl eu eo refl
+  pub reading-back : n + o < 2 ^ 64
+  reading-back = back-small c (walking .full .ready .sizes) (t .north) (t .east)
 
-    module _ (n : getD e (i - 1) 0 ≡ 78 → ⊥) where
-      module _ (b : getD e (i - 1) 0 ≡ 69) {u : ℕ} (eu : u ≡ getD (plainUp c) 1 0) where
-        pub not-east : y < u → PlainRank c e NoEdge
-        not-east o = not-up w h (place-e true _ refl n b) level px (omega (arith, eu))
+  pub reading-near : Near c val x y cell n o
+  reading-near = near c (walking .full) (walking .stand) (t .north) (t .east)
 
-        module _ (l : u ≤ y) {p o : ℕ} (ep : p ≡ getD (plainBack c) 0 0) (eo : o ≡ getD (plainBack c) 1 0) where
-          east-step : Stepped true (plainPlan c) (plainRight c) (plainUp c) (plainBack c) val e acc x y cell i 1
-          east-step = stepped w h (place-e true _ refl n b) level (omega (arith, two-there (c .diagonal))) px (omega (arith, eu))
+  pub east-fits : acc + getD val (cell - n) 0 < 2 ^ 64
+  east-fits = omega (arith, more-fits 1 (omega (arith, two-there (c .diagonal))), reading-near .one)
 
-          pub east-near : Near c val x y cell p o
-          east-near = near c (east-step .reads) px ep eo
+  pub across-fits : acc + (getD val (cell - n) 0 + getD val (cell - o) 0) < 2 ^ 64
+  across-fits = omega (arith, more-fits 2 (two-there (c .diagonal) .0), reading-near .both)
 
-          pub east-taken : Taken c val e acc x y cell i 1 u o (getD val (cell - p) 0)
-          east-taken = taken east-step refl eu eo (east-near .one)
+  pub north-led : getD e (i - 1) 0 ≡ 78 → Led c val e acc (cell - n) (i - 1)
+  unfolding sum
+  north-led b = next 0 (place-n true _ refl b) (omega (arith, two-there (c .diagonal))) (t .north) (reading-near .north-back) refl (omega arith)
 
-      module _ (m : getD e (i - 1) 0 ≡ 69 → ⊥) where
-        pub not-across : isAcross c (getD e (i - 1) 0) x y ≡ false → PlainRank c e NoEdge
-        not-across f = go (ℕ-discrete (getD e (i - 1) 0) 68) (c .diagonal) refl (decLt x 2) (decLt y 1)
+  module _ (a : getD e (i - 1) 0 ≡ 78 → ⊥) where
+    pub east-led : getD e (i - 1) 0 ≡ 69 → Led c val e (acc + getD val (cell - n) 0) (cell - o) (i - 1)
+    east-led b = next 1 (place-e true _ refl a b) (omega (arith, two-there (c .diagonal))) (t .east) (reading-near .east-back) (reading-near .one) refl
+
+    module _ (m : getD e (i - 1) 0 ≡ 69 → ⊥) where
+      pub no-step : isAcross c (getD e (i - 1) 0) ≡ false → PlainRank c e NoEdge
+      no-step f = go (ℕ-discrete (getD e (i - 1) 0) 68) (c .diagonal) refl
+        where
+          go : Dec (getD e (i - 1) 0 ≡ 68) → (d : Bool) → c .diagonal ≡ d → PlainRank c e NoEdge
+          go (no b) d q = not-letter walking (t .more) (place-no true _ refl a m b) (level c x y) (two-there (c .diagonal) .1)
+          go (yes b) false q = not-letter walking (t .more) (place-d true _ refl a m b) (level c x y) (rw q (omega arith))
+          go (yes b) true q = let g : true ≡ false = rw (eq-eqb (getD e (i - 1) 0) 68 b, q) at f in absurd (subst T g tt)
+
+      module _ (is : isAcross c (getD e (i - 1) 0) ≡ true) where
+        d : c .diagonal ≡ true
+        d = is-true (c .diagonal) (and-right (eqb (getD e (i - 1) 0) 68) (c .diagonal) (holds is))
+
+        letter : 2 ≡ placeOf true (getD e (i - 1) 0)
+        letter = place-d true _ refl a m (eqb→eq (getD e (i - 1) 0) 68 (and-left (eqb (getD e (i - 1) 0) 68) (c .diagonal) (holds is)))
+
+        pub across-left : cell < n + o → PlainRank c e NoEdge
+        across-left l = not-right walking (t .more) letter (level c x y) (omega (arith, first, two-right (c .diagonal)))
           where
-            go : Dec (getD e (i - 1) 0 ≡ 68) → (d : Bool) → c .diagonal ≡ d → Dec (x < 2) → Dec (y < 1) → PlainRank c e NoEdge
-            go (no b) d q s t = not-letter w h (place-no true _ refl n m b) level (two-there (c .diagonal) .1)
-            go (yes b) false q s t = not-letter w h (place-d true _ refl n m b) level (rw q (omega arith))
-            go (yes b) true q (yes s) t = not-right w h (place-d true _ refl n m b) level (rw q s)
-            go (yes b) true q (no s) (yes t) = not-up w h (place-d true _ refl n m b) level (rw q (omega arith)) (rw q t)
-            go (yes b) true q (no s) (no t) =
-                let g : true ≡ false = rw (eq-eqb (getD e (i - 1) 0) 68 b, le-leb 2 x (omega arith), le-leb 1 y (omega arith), q) at f in
-                absurd (subst T g tt)
+            first : x < 1
+            first = elim (decLt x 1) [
+              | yes q ↦ q
+              | no q ↦ absurd (omega (arith, t .north, t .east, walking .stand .at, one-up (ltb (c .n) (c .m)) _ refl, grow (strideFor (plainPlan c)) 2 (x + 1) (omega arith)))
+            ]
 
-        module _ (t : isAcross c (getD e (i - 1) 0) x y ≡ true) {p o : ℕ} (ep : p ≡ getD (plainBack c) 0 0) (eo : o ≡ getD (plainBack c) 1 0) where
-          far : T (leb 2 x && (leb 1 y && c .diagonal))
-          far = and-right (eqb (getD e (i - 1) 0) 68) (leb 2 x && (leb 1 y && c .diagonal)) (holds t)
-
-          high : T (leb 1 y && c .diagonal)
-          high = and-right (leb 2 x) (leb 1 y && c .diagonal) far
-
-          d : c .diagonal ≡ true
-          d = is-true (c .diagonal) (and-right (leb 1 y) (c .diagonal) high)
-
-          pub across-far : (2 ≤ x) × (1 ≤ y)
-          across-far = (leb→le 2 x (and-left (leb 2 x) (leb 1 y && c .diagonal) far), leb→le 1 y (and-left (leb 1 y) (c .diagonal) high))
-
-          across-step : Stepped true (plainPlan c) (plainRight c) (plainUp c) (plainBack c) val e acc x y cell i 2
-          across-step =
-              let b = eqb→eq (getD e (i - 1) 0) 68 (and-left (eqb (getD e (i - 1) 0) 68) (leb 2 x && (leb 1 y && c .diagonal)) (holds t)) in
-              stepped w h (place-d true _ refl n m b) level (rw d (omega arith)) (rw d (across-far .0)) (rw d (across-far .1))
-
-          pub across-near : Near c val x y cell p o
-          across-near = near c (across-step .reads) px ep eo
-
-          pub across-taken : Taken c val e acc x y cell i 2 1 (p + o) (getD val (cell - p) 0 + getD val (cell - o) 0)
-          across-taken = taken across-step (rw d refl) (rw d refl) (across-back c ep eo d) (across-near .both)
+        pub across-led : n + o ≤ cell → Led c val e (acc + (getD val (cell - n) 0 + getD val (cell - o) 0)) (cell - (n + o)) (i - 1)
+        across-led far = next 2 letter (rw d (omega arith)) (across-back c (t .north) (t .east) d) far (reading-near .both) refl
 
 -- ---- the loop of `spell`, which doesn't keep the height
 
@@ -268,62 +416,83 @@ pub record Added (c : Plain) (val : List ℕ) (r : ℕ) (buf₀ buf : List ℕ) 
   pub ahead : x - a < x
   pub next : Spelt c val r buf₀ (set buf (s - 1) g) (x - a) (cell - o) rest (s - 1)
 
+-- a turn: the start isn't reached, and n and o are how far back the cells of N and E lie
+pub record Spelling (c : Plain) (val : List ℕ) (r : ℕ) (buf₀ buf : List ℕ) (x cell left s n o : ℕ) : Type 0 where
+  pub spelt : Spelt c val r buf₀ buf x cell left s
+  pub more : 0 < x
+  pub north : n ≡ getD (plainBack c) 0 0
+  pub east : o ≡ getD (plainBack c) 1 0
+
 module _ (c : Plain) {val : List ℕ} {r : ℕ} {buf₀ : List ℕ} where
   pub spelt-start : {n o x cell : ℕ} → Given c val r buf₀ n o x cell → Spelt c val r buf₀ buf₀ x cell r 128
   spelt-start g = rw (g .from) (record { y = _; writing = writing-start (g .full) (g .less) (g .long) _ (g .at) })
 
-  module _ {buf : List ℕ} {x cell left s : ℕ} (w : Spelt c val r buf₀ buf x cell left s) where
-    pub spelt-end : x ≤ 0 → (s ≤ 128) × (drop s buf ≡ plainEdge c r)
-    spelt-end h = writing-end (w .writing) h
+  pub spelt-end : {buf : List ℕ} {x cell left s : ℕ} → Spelt c val r buf₀ buf x cell left s → x ≤ 0 → (s ≤ 128) × (drop s buf ≡ plainEdge c r)
+  spelt-end w h = writing-end (w .writing) h
 
-    module _ (px : 0 < x) {p o : ℕ} (ep : p ≡ getD (plainBack c) 0 0) (eo : o ≡ getD (plainBack c) 1 0) where
-      pub spelt-near : Near c val x (w .y) cell p o
-      spelt-near = near c (reads-of (w .writing) px) px ep eo
+module _ {c : Plain} {val : List ℕ} {r : ℕ} {buf₀ buf : List ℕ} {x cell left s n o : ℕ} (t : Spelling c val r buf₀ buf x cell left s n o) where
+  abbrev written-so : Writing true (plainPlan c) (plainRight c) (plainUp c) (plainBack c) val r buf₀ buf x (t .spelt .y) cell left s
+  written-so = t .spelt .writing
 
-      pub spelt-room : (1 ≤ s) × (s - 1 < length buf)
-      spelt-room = (omega (arith, w .writing .x-le), omega (arith, w .writing .x-le, w .writing .s-le, w .writing .room))
+  -- what each step brings
+  abbrev each : ℕ → ℕ
+  each = steps-via c x (t .spelt .y)
 
-      added : (l g a b rest : ℕ) → Sought (steps-via c x (w .y)) (plainPlan c .k) left l rest → a ≡ getD (plainRight c) l 0 → b ≡ getD (plainBack c) l 0 → g ≡ glyphOf true l
-          → Added c val r buf₀ buf x cell s g a b rest
-      added l g a b rest so ea eb eg =
-          let t = written (w .writing) px l rest so in
-          record {
-            right = omega (arith, ea, t .right);
-            far = omega (arith, eb, t .far);
-            ahead = rw ea (t .ahead);
-            next = record { y = _; writing = write-as t ea eb eg };
-          }
+  pub spelling-back : n + o < 2 ^ 64
+  spelling-back = back-small c (written-so .full .ready .sizes) (t .north) (t .east)
 
-      pub north-added : left < getD val (cell - p) 0 → Added c val r buf₀ buf x cell s 78 1 p left
-      unfolding sum
-      north-added l =
-          added 0 78 1 p left
-          (seek-here (steps-via c x (w .y)) 0 (plainPlan c .k) left left (omega arith) (omega (arith, two-there (c .diagonal))) _ (spelt-near .north-is) l) refl ep (glyph-n true 0 refl refl)
+  pub spelling-near : Near c val x (t .spelt .y) cell n o
+  spelling-near = near c (written-so .full) (written-so .stand) (t .north) (t .east)
 
-      module _ (l : getD val (cell - p) 0 ≤ left) where
-        past-north : sum (steps-via c x (w .y)) 1 + (left - getD val (cell - p) 0) ≡ left
-        unfolding sum
-        past-north = omega (arith, spelt-near .one)
+  pub spelling-room : (1 ≤ s) × (s - 1 < length buf)
+  spelling-room = (omega (arith, t .more, written-so .x-le), omega (arith, t .more, written-so .x-le, written-so .s-le, written-so .room))
 
-        pub east-added : left - getD val (cell - p) 0 < getD val (cell - o) 0 → Added c val r buf₀ buf x cell s 69 1 o (left - getD val (cell - p) 0)
-        east-added q =
-            added 1 69 1 o _
-            (seek-here (steps-via c x (w .y)) 1 (plainPlan c .k) _ left past-north (omega (arith, two-there (c .diagonal))) _ (spelt-near .east-is) q) refl eo (glyph-e true 1 refl (λ z. omega arith) refl)
+  added : (l g a b rest : ℕ) → Sought each (plainPlan c .k) left l rest → a ≡ getD (plainRight c) l 0 → b ≡ getD (plainBack c) l 0 → g ≡ glyphOf true l
+      → Added c val r buf₀ buf x cell s g a b rest
+  added l g a b rest so ea eb eg =
+      let w = next-letter written-so (t .more) l rest so in
+      record {
+        right = omega (arith, ea, w .right);
+        far = omega (arith, eb, w .far);
+        ahead = rw ea (w .ahead);
+        next = record { y = _; writing = write-as w ea eb eg };
+      }
 
-        module _ (q : getD val (cell - o) 0 ≤ left - getD val (cell - p) 0) where
-          past-east : sum (steps-via c x (w .y)) 2 + (left - getD val (cell - p) 0 - getD val (cell - o) 0) ≡ left
-          past-east = omega (arith, spelt-near .both)
+  pub north-added : left < getD val (cell - n) 0 → Added c val r buf₀ buf x cell s 78 1 n left
+  unfolding sum
+  north-added l =
+      added 0 78 1 n left
+      (seek-here each 0 (plainPlan c .k) left left (omega arith) (omega (arith, two-there (c .diagonal))) _ (spelling-near .north-is) l) refl (t .north) (glyph-n true 0 refl refl)
 
-          -- what neither N nor E stands for, D does
-          across-sought : Sought (steps-via c x (w .y)) (plainPlan c .k) left 2 (left - getD val (cell - p) 0 - getD val (cell - o) 0)
-          across-sought = go (c .diagonal) refl
-            where
-              go : (d : Bool) → c .diagonal ≡ d → Sought (steps-via c x (w .y)) (plainPlan c .k) left 2 (left - getD val (cell - p) 0 - getD val (cell - o) 0)
-              go true e = seek-here (steps-via c x (w .y)) 2 (plainPlan c .k) _ left past-east (rw e (omega arith)) _ refl
-                  (omega (arith, past-east, sum-more (steps-via c x (w .y)) 2, left-of (w .writing) px, ap (λ (b : Bool). sum (steps-via c x (w .y)) (pick b 3 2)) e))
-              go false e = absurd (seek-end (steps-via c x (w .y)) 2 (plainPlan c .k) _ left past-east (two-there (c .diagonal) .0) (rw e (omega arith)) (left-of (w .writing) px))
+  module _ (l : getD val (cell - n) 0 ≤ left) where
+    past-north : sum each 1 + (left - getD val (cell - n) 0) ≡ left
+    unfolding sum
+    past-north = omega (arith, spelling-near .one)
 
-          pub across-added : Added c val r buf₀ buf x cell s 68 2 (p + o) (left - getD val (cell - p) 0 - getD val (cell - o) 0)
-          across-added =
-              let d = third-there (c .diagonal) (across-sought .falls .inside) in
-              added 2 68 2 (p + o) _ across-sought (rw d refl) (across-back c ep eo d) (glyph-d true 2 refl (λ z. omega arith) (λ z. omega arith))
+    pub east-added : left - getD val (cell - n) 0 < getD val (cell - o) 0 → Added c val r buf₀ buf x cell s 69 1 o (left - getD val (cell - n) 0)
+    east-added q =
+        added 1 69 1 o _
+        (seek-here each 1 (plainPlan c .k) _ left past-north (omega (arith, two-there (c .diagonal))) _ (spelling-near .east-is) q) refl (t .east) (glyph-e true 1 refl (λ z. omega arith) refl)
+
+    module _ (q : getD val (cell - o) 0 ≤ left - getD val (cell - n) 0) where
+      past-east : sum each 2 + (left - getD val (cell - n) 0 - getD val (cell - o) 0) ≡ left
+      past-east = omega (arith, spelling-near .both)
+
+      -- what neither N nor E stands for, D does
+      across-sought : Sought each (plainPlan c .k) left 2 (left - getD val (cell - n) 0 - getD val (cell - o) 0)
+      across-sought = go (c .diagonal) refl
+        where
+          go : (d : Bool) → c .diagonal ≡ d → Sought each (plainPlan c .k) left 2 (left - getD val (cell - n) 0 - getD val (cell - o) 0)
+          go true e =
+              let k : plainPlan c .k ≡ 3 = ap (λ (b : Bool). pick b 3 2) e in
+              seek-here each 2 (plainPlan c .k) _ left past-east (omega arith) _ refl
+              (omega (arith, past-east, sum-more each 2, left-of written-so (t .more), ap (sum each) k))
+          go false e =
+              let k : plainPlan c .k ≡ 2 = ap (λ (b : Bool). pick b 3 2) e in
+              absurd (seek-end each 2 (plainPlan c .k) _ left past-east (two-there (c .diagonal) .0) (omega arith) (left-of written-so (t .more)))
+
+      pub across-added : Added c val r buf₀ buf x cell s 68 2 (n + o) (left - getD val (cell - n) 0 - getD val (cell - o) 0)
+      across-added =
+          let d = third-there (c .diagonal) (across-sought .falls .inside) in
+          let two : 2 ≡ getD (plainRight c) 2 0 = ap (λ (b : Bool). pick b 2 100) (sym d) in
+          added 2 68 2 (n + o) _ across-sought two (across-back c (t .north) (t .east) d) (glyph-d true 2 refl (λ z. omega arith) (λ z. omega arith))

@@ -7,7 +7,7 @@
 --   plainRight, plainUp c  its steps N, E and D: how far on, and how far up; N goes up, or E where n is below m
 --   plainBack c             how far back each step's cells lie
 --   rises c                  how far up N goes: 1, or 0 where n is below m
---   isAcross c b x y         the byte b is a D, and it can be the last step to (x, y)
+--   isAcross c b             the byte b is a D, and D is a step of the job
 --   plainEnd c              where the end's count stands in the table
 --   Within c                 n and m are at most 64
 --   PlainSizes, PlainReady, PlainBlank, PlainReadable    SizesFor, PreparedFor, Blank and Readable by that plan and these steps
@@ -16,7 +16,7 @@
 use mathlib.Core.Bool.{Bool, true, not, _&&_}
 use mathlib.Core.List.{List, [], _∷_, map}
 use Prim.Native.Nat.{ℕ, _+_, _*_, _-_, _≤_}
-use lib.Dec.{eqb, ltb, leb}
+use lib.Dec.{eqb, ltb}
 use lib.ListN.{getD}
 use Rattle.howmany.specs.Choose.{pick, bit}
 use Rattle.rules.specs.Jobs as rules
@@ -75,9 +75,9 @@ plainBack c = map (λ i. getD (plainRight c) i 0 * strideFor (plainPlan c) + get
 abbrev pub rises : Plain → ℕ
 rises c = getD (plainUp c) 0 0
 
--- "`D` (1,1)" is a step of family 3 only, and leads back by two columns and a height
-abbrev pub isAcross : Plain → ℕ → ℕ → ℕ → Bool
-isAcross c b x y = eqb b 68 && (leb 2 x && (leb 1 y && c .diagonal))
+-- "`D` (1,1)" is a step of family 3 only
+abbrev pub isAcross : Plain → ℕ → Bool
+isAcross c b = eqb b 68 && c .diagonal
 
 -- the last cell of the last column
 abbrev pub plainEnd : Plain → ℕ

@@ -1,4 +1,7 @@
 // What is known of a block before anything is worked out.
+ghost use mathlib.Core.Path.{_≡_};
+ghost use mathlib.Core.Bool.{true};
+ghost use Rattle.rules.specs.Blocks.{familyOf, plain};
 ghost use Rattle.rows.specs.Calls.{KnownIs};
 use crate::plain::Plain;
 use crate::plain::plain_of;
@@ -12,7 +15,21 @@ pub(crate) enum Known {
     End(Plain),
 }
 
-// The family first, then the room, then refusals 1, 2 and 3.
+// What Job::of makes of a block whose family is 1 or 3: refusal 1, 2 or 3, or the end.
+fn made_of(block: &[u8]) -> Known
+    requires { ⌜ plain (familyOf (now block)) ≡ true ⌝ }
+    ensures { λ r. ⌜ KnownIs (now (block .entry)) true r ⌝ }
+{
+    let made = Job::of(block);
+    let refusal = made.refusal;
+    if refusal != 0 {
+        return Known::Refused(refusal);
+    }
+    Known::End(plain_of(made.job))
+}
+
+// The family first, then the room, then refusals 1, 2 and 3. What is made of the block stands apart, since the compiler copies the slice
+// for it: so it does only where the family is 1 or 3.
 pub(crate) fn known_of(block: &[u8], room: bool) -> Known
     ensures { λ r. ⌜ KnownIs (now (block .entry)) room r ⌝ }
 {
@@ -22,10 +39,5 @@ pub(crate) fn known_of(block: &[u8], room: bool) -> Known
     if !room {
         return Known::NoRoom;
     }
-    let made = Job::of(block);
-    let refusal = made.refusal;
-    if refusal != 0 {
-        return Known::Refused(refusal);
-    }
-    Known::End(plain_of(made.job))
+    made_of(block)
 }

@@ -12,78 +12,60 @@ use crate::plain::east_of;
 use crate::plain::end_of;
 use crate::plain::lesser;
 use crate::plain::north_of;
-use crate::plain::rise_of;
+use crate::plain::stride_of;
 use crate::table::fill_rows;
 use job::Step;
 use lines::Rank;
 use lines::Ranked;
 use tables::Tally;
 
-// Whether the byte b is a D that can be the last step to (x, y).
-fn is_across(c: Plain, b: u8, x: usize, y: usize) -> bool
-    ensures { λ r. ⌜ r ≡ isAcross c b x y ⌝ }
+// Whether the byte b is a D, in a job that has that step.
+fn is_across(c: Plain, b: u8) -> bool
+    ensures { λ r. ⌜ r ≡ isAcross c b ⌝ }
 {
     if b != Step::DIAGONAL {
-        return false;
-    }
-    if x < 2 {
-        return false;
-    }
-    if y < 1 {
         return false;
     }
     c.diagonal
 }
 
-// The number of the edge e (000, algorithms 1 and 5), or that e is none. Until that is known the sum fits all the same: with
-// the walks to (x, y) it is no more than the count.
+// The number of the edge e (000, algorithms 1 and 5), or that e is none. No walk leads to a cell of 0, and a step out of the grid
+// leads to one, so neither the column nor the height is kept. Only D from column 0 would leave the table. Until it is known whether
+// e is an edge the sum fits all the same: with the walks to the cell it is no more than the count.
 fn read(val: &[u64], c: Plain, e: &[u8]) -> Rank
     requires { ⌜ PlainReadable c (now val) ⌝ }
     ensures { λ r. ⌜ PlainRank c (now (e .entry)) r ⌝ }
 {
-    let up_n = rise_of(c);
-    let up_e = 1 - up_n;
     let north = north_of(c);
     let east = east_of(c);
     let mut acc: u64 = 0;
-    let mut x = c.n + c.m;
-    let mut y = lesser(c);
     let mut at = end_of(c);
     let mut i = e.len();
     while 0 < i {
-        i -= 1;
-        let b = e[i];
-        if x < 1 {
+        if val[at] == 0 {
             return Rank::NoEdge;
         }
+        i -= 1;
+        let b = e[i];
         if b == Step::NORTH {
-            if y < up_n {
-                return Rank::NoEdge;
-            }
-            x -= 1;
-            y -= up_n;
             at -= north;
             continue;
         }
         if b == Step::EAST {
-            if y < up_e {
-                return Rank::NoEdge;
-            }
             acc += val[at - north];
-            x -= 1;
-            y -= up_e;
             at -= east;
             continue;
         }
-        if !is_across(c, b, x, y) {
+        if !is_across(c, b) {
+            return Rank::NoEdge;
+        }
+        if at < north + east {
             return Rank::NoEdge;
         }
         acc += val[at - north] + val[at - east];
-        x -= 2;
-        y -= 1;
         at -= north + east;
     }
-    if 0 < x + y {
+    if at != stride_of(c) + 1 {
         return Rank::NoEdge;
     }
     Rank::At(acc)

@@ -1,9 +1,9 @@
--- The edge of a number, next-letter from its end over a filled table. Assumes nothing.
+-- The edge of a number, written from its end over a filled table. Assumes nothing.
 --
 --   seek-here, seek-more, seek-end, seek-in, seek-start    the loop of `seek`
 --   unr, unr-start, unr-step     the steps of the edge of a number, the last one first
 --   via-pos, walks-in                where there are walks, the step and the spot are inside
---   write-turn, write-done       a byte next-letter in front of the others, and all of them
+--   write-turn, write-done       a byte written in front of the others, and all of them
 --   Writing, writing-start, reads-of, left-of, seek-needs, NextLetter, next-letter, picked, write-as, write-from, writing-end    the loop of `spell`
 use mathlib.Core.Path.{_≡_, refl, sym, ap, ap₂, _∙_}
 use mathlib.Core.Bool.{Bool}
@@ -115,7 +115,7 @@ module _ (k : ℕ) (f : Wall) (sa sc : List ℕ) (pos : (i : ℕ) → i < k → 
   pub walks-in : (x y r : ℕ) → r < walksTo k f sa sc x y → T (wall f x y)
   walks-in x y r h = elim (tested (wall f x y)) [ yes p ↦ p | no q ↦ absurd (omega (arith, walks-out k f sa sc pos x y q)) ]
 
--- ---- bytes next-letter at the end of a buffer
+-- ---- bytes written at the end of a buffer
 
 write-start : (l t : List ℕ) (n : ℕ) → length l ≡ n → reverse (drop n l) ++ t ≡ t
 write-start l t n e = rw (drop-of-length-le l {i = n} (omega arith))

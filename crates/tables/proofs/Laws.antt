@@ -10,7 +10,7 @@
 --   via-any                          what holds of 0 and of every count before holds of what a step brings
 --   cap-lt, cap-ge, cap-count, cap-over, count-over, cell-zero, cell-over, cell-value    answers
 --   total-done, total-over, total-more, total-wraps    the loop over the steps
---   put-is                           a cell next-letter
+--   put-is                           a cell written
 use mathlib.Core.Path.{_≡_, refl, sym, ap, _∙_}
 use mathlib.Core.Bool.{Bool, true, false}
 use mathlib.Core.List.{List}

@@ -2,7 +2,7 @@
 --
 --   Agree k x y               two places are one, or neither is a step's
 --   entered G q               the spot q, if the grid G lets a walk be there
---   Gridded J lettered G q    the edges of the job J, next-letter N E D where lettered is true and else in digits, are the walks of the grid G to the spot q
+--   Gridded J lettered G q    the edges of the job J, written N E D where lettered is true and else in digits, are the walks of the grid G to the spot q
 use mathlib.Core.Path.{_≡_}
 use mathlib.Core.Bool.{Bool}
 use mathlib.Core.Option.{Option}

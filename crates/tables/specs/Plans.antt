@@ -10,9 +10,9 @@
 --   SpansFor p starts stops           where the heights that matter of the plan's columns begin, and end
 --   walksFor p sa sc                  how many walks lead to the end
 --   countFor p sa sc                  the count by a plan
---   validFor, rankFor lettered p sa sc e    whether e is an edge, next-letter N E D where lettered is true, and its number if so; RankFor: r says which
---   NumbersFor lettered p sa sc es ..    the numbers of the edges es next-letter, up to the first that is none, or refusal 4
---   edgeFor lettered p sa sc r          the edge of the number r; ListsFor, BuildsFor: those of the numbers ns next-letter, and those or refusal 4 or 6
+--   validFor, rankFor lettered p sa sc e    whether e is an edge, written N E D where lettered is true, and its number if so; RankFor: r says which
+--   NumbersFor lettered p sa sc es ..    the numbers of the edges es written, up to the first that is none, or refusal 4
+--   edgeFor lettered p sa sc r          the edge of the number r; ListsFor, BuildsFor: those of the numbers ns written, and those or refusal 4 or 6
 --   RoomFor ns steps ends             there is room for the edges of the numbers ns
 use mathlib.Core.Path.{_≡_}
 use mathlib.Core.Bool.{Bool}

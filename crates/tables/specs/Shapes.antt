@@ -4,7 +4,7 @@
 --   FormOf s            the shape s is one that the table can be filled for, with no more than the 32 columns of families 6 and 7
 --   Shows G q s         the shape s shows the grid G with the end q: slid down, or mirrored
 --   Fits J lettered s   the shape s shows a grid of the job and its end
---   Shaped J s          s says all of the job, whose edges are next-letter in digits: its steps and end, or that nothing leads to its end
+--   Shaped J s          s says all of the job, whose edges are written in digits: its steps and end, or that nothing leads to its end
 --   ShapedFor j s       the same, of the job that j stands for
 --   Ranged j            the ranges of families 6 and 7
 --   Fenced f            the wall f is a fence as those families have

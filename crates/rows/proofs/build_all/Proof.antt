@@ -1,79 +1,64 @@
 -- `rows::build_all` meets its contract: by what is known of the block. Assumes nothing.
-use mathlib.Core.Path.{sym, _∙_, subst}
+use mathlib.Core.Path.{_≡_, sym, _∙_, subst}
 use Rattle.lines.proofs.Lining.{room-of}
 use Rattle.lines.proofs.Mines.{other-lines}
 use Rattle.lines.proofs.Knowing.{lines-no-room, lines-refusing, lines-ending}
+use Rattle.rows.specs.declared.known.Known.{Known}
 use Rattle.rows.specs.Calls.{KnownIs}
 use borrow.Author.Needs.{needs}
 use Rattle.rows.proofs.build_all.Statement.{statement}
 use Rattle.rows.proofs.build_all.Tie as tie
 
+-- what is known of the block, by the arm
+knows : (c : tie.After-known-of) {r : Known} → c .known-of .result ≡ r → KnownIs (c .before .before .before .before .before .before .args .block .now) (c .before .has-room .result) r
+knows c e = subst (KnownIs _ _) e (c .known-of .ensures)
+
 has-room-requires : tie.Need-has-room-requires
-has-room-requires c κs =
-    search needs
+has-room-requires c κs = search needs
 
 known-of-requires : tie.Need-known-of-requires
-known-of-requires c κs =
-    search needs
+known-of-requires c κs = search needs
 
 enum-told : tie.Need-enum-told
-enum-told c =
-    search needs
+enum-told c = search needs
 
 enum-told-2 : tie.Need-enum-told-2
-enum-told-2 c =
-    search needs
+enum-told-2 c = search needs
 
 enum-known-r : tie.Need-enum-known-r
-enum-known-r c =
-    search needs
+enum-known-r c = search needs
 
 enum-known-c : tie.Need-enum-known-c
-enum-known-c c =
-    search needs
+enum-known-c c = search needs
 
 spell-edges-requires : tie.Need-spell-edges-requires
 spell-edges-requires c κs =
-    let known = subst (KnownIs (c .before .before .before .before .before .before .before .before .before .before .before .args .block .now) _) (c .before .before .before .c .given .1) (c .before .before .before .before .before .known-of .ensures) in (known .0, room-of _ _ _ (sym (c .before .before .before .before .before .before .has-room .ensures) ∙ known .1 .roomy))
+    let known = knows (c .before .before .before .before .before) (c .before .before .before .c .given .1) in
+    (known .0, room-of _ _ _ (sym (c .before .before .before .before .before .before .has-room .ensures) ∙ known .1 .roomy))
 
 returns : tie.Need-returns
-returns c =
-    other-lines (subst (KnownIs (c .before .before .before .before .before .before .before .before .args .block .now) _) (c .enum-told .given .1) (c .before .before .known-of .ensures)) _ _ _
+returns c = other-lines (knows (c .before .before) (c .enum-told .given .1)) _ _ _
 
 returns-2 : tie.Need-returns-2
-returns-2 c =
-    lines-no-room (c .before .before .before .before .before .before .before .before .args .block .now) _ _ _ (c .before .before .before .has-room .ensures) (subst (KnownIs (c .before .before .before .before .before .before .before .before .args .block .now) _) (c .enum-told2 .given .1) (c .before .before .known-of .ensures))
+returns-2 c = lines-no-room _ _ _ _ (c .before .before .before .has-room .ensures) (knows (c .before .before) (c .enum-told2 .given .1))
 
 returns-3 : tie.Need-returns-3
-returns-3 c =
-    lines-refusing (c .before .before .before .before .before .before .before .before .before .args .block .now) _ _ _ (c .before .before .before .before .has-room .ensures) (subst (KnownIs (c .before .before .before .before .before .before .before .before .before .args .block .now) _) (c .before .r .given .1) (c .before .before .before .known-of .ensures))
+returns-3 c = lines-refusing _ _ _ _ (c .before .before .before .before .has-room .ensures) (knows (c .before .before .before) (c .before .r .given .1))
 
 same-length : tie.Need-same-length
-same-length c =
-    search needs
+same-length c = search needs
 
 same-length-2 : tie.Need-same-length-2
-same-length-2 c =
-    search needs
+same-length-2 c = search needs
 
 returns-4 : tie.Need-returns-4
 returns-4 c =
-    lines-ending (c .before .before .before .before .before .before .before .before .before .before .before .before .before .before .before .before .args .block .now) _ _ _ (c .before .before .before .before .before .before .before .before .before .before .before .has-room .ensures) (c .before .before .before .before .spell-edges .result) _ _ (subst (KnownIs (c .before .before .before .before .before .before .before .before .before .before .before .before .before .before .before .before .args .block .now) _) (c .before .before .before .before .before .before .before .before .c .given .1) (c .before .before .before .before .before .before .before .before .before .before .known-of .ensures) .1) (c .before .before .before .before .spell-edges .ensures)
+    let at = c .before .before .before .before .before .before .before .before .before .before in
+    lines-ending _ _ _ _ (at .before .has-room .ensures) (c .before .before .before .before .spell-edges .result) _ _ (knows at (c .before .before .before .before .before .before .before .before .c .given .1) .1) (c .before .before .before .before .spell-edges .ensures)
 
 pub build-all-spec : {M : Type 1} → statement M
 build-all-spec =
     tie.close
     (tie.spec
-    has-room-requires
-    known-of-requires
-    enum-told
-    enum-told-2
-    enum-known-r
-    enum-known-c
-    spell-edges-requires
-    returns
-    returns-2
-    returns-3
-    same-length
-    same-length-2
-    returns-4)
+    has-room-requires known-of-requires enum-told enum-told-2 enum-known-r enum-known-c spell-edges-requires returns returns-2 returns-3
+    same-length same-length-2 returns-4)

@@ -1,15 +1,20 @@
 -- `rows::count` meets its contract: by what is known of the block. Assumes nothing.
-use mathlib.Core.Path.{subst}
+use mathlib.Core.Path.{_≡_, subst}
 use mathlib.Core.Bool.{true}
 use Rattle.rules.specs.Answers.{countAnswer}
 use Rattle.lines.specs.declared.Counting.the-variants.{NotMine}
 use Rattle.lines.proofs.Mines.{other-count}
 use Rattle.lines.proofs.Knowing.{count-never, count-refusing, count-ending}
+use Rattle.rows.specs.declared.known.Known.{Known}
 use Rattle.rows.specs.Calls.{KnownIs}
 use Rattle.rows.proofs.Plains.{plain-counts}
 use borrow.Author.Needs.{needs}
 use Rattle.rows.proofs.count.Statement.{statement}
 use Rattle.rows.proofs.count.Tie as tie
+
+-- what is known of the block, by the arm
+knows : (c : tie.After-known-of) {r : Known} → c .known-of .result ≡ r → KnownIs (c .before .before .args .block .now) true r
+knows c e = subst (KnownIs _ true) e (c .known-of .ensures)
 
 known-of-requires : tie.Need-known-of-requires
 known-of-requires c κs = search needs
@@ -27,37 +32,22 @@ enum-known-c : tie.Need-enum-known-c
 enum-known-c c = search needs
 
 count-of-requires : tie.Need-count-of-requires
-count-of-requires c κs =
-    subst (KnownIs (c .before .before .before .before .before .args .block .now) true) (c .before .c .given .1) (c .before .before .before .known-of .ensures) .0
+count-of-requires c κs = knows (c .before .before .before) (c .before .c .given .1) .0
 
 returns : tie.Need-returns
-returns c =
-    other-count (subst (KnownIs (c .before .before .before .before .args .block .now) true) (c .enum-told .given .1) (c .before .before .known-of .ensures)) (countAnswer (c .before .before .before .before .args .block .now))
+returns c = other-count (knows (c .before .before) (c .enum-told .given .1)) (countAnswer (c .before .before .before .before .args .block .now))
 
 returns-2 : tie.Need-returns-2
-returns-2 c =
-    count-never (c .before .before .before .before .args .block .now) NotMine (subst (KnownIs (c .before .before .before .before .args .block .now) true) (c .enum-told2 .given .1) (c .before .before .known-of .ensures))
+returns-2 c = count-never _ NotMine (knows (c .before .before) (c .enum-told2 .given .1))
 
 returns-3 : tie.Need-returns-3
-returns-3 c =
-    count-refusing (c .before .before .before .before .before .args .block .now) (subst (KnownIs (c .before .before .before .before .before .args .block .now) true) (c .before .r .given .1) (c .before .before .before .known-of .ensures))
+returns-3 c = count-refusing _ (knows (c .before .before .before) (c .before .r .given .1))
 
 returns-4 : tie.Need-returns-4
-returns-4 c =
-    let known = subst (KnownIs (c .before .before .before .before .before .before .args .block .now) true) (c .before .before .c .given .1) (c .before .before .before .before .known-of .ensures) in
-    count-ending (c .before .before .before .before .before .before .args .block .now) (c .count-of .result) (known .1) (plain-counts (c .before .before .c .given .0 .0) (c .count-of .result) (c .count-of .ensures))
+returns-4 c = count-ending _ (c .count-of .result) (knows (c .before .before .before .before) (c .before .before .c .given .1) .1) (plain-counts (c .before .before .c .given .0 .0) (c .count-of .result) (c .count-of .ensures))
 
 pub count-spec : {M : Type 1} → statement M
 count-spec =
     tie.close
     (tie.spec
-    known-of-requires
-    enum-told
-    enum-told-2
-    enum-known-r
-    enum-known-c
-    count-of-requires
-    returns
-    returns-2
-    returns-3
-    returns-4)
+    known-of-requires enum-told enum-told-2 enum-known-r enum-known-c count-of-requires returns returns-2 returns-3 returns-4)

@@ -1,123 +1,83 @@
 -- `rows::numbering::number_each` meets its contract: an edge more at each turn. Assumes nothing.
-use mathlib.Core.Bool.{true}
+use mathlib.Core.Path.{_≡_}
 use Prim.Native.Nat.{_-_}
-use lib.ListN.{length}
+use lib.ListN.{length, getD}
 use borrow.Author.Needs.{needs}
+use Rattle.rules.specs.Packs.{partOf}
+use Rattle.lines.specs.declared.Rank.{Rank}
 use Rattle.lines.proofs.Ranking.{Ranking, ranking-none, ranking-room, ranking-next, ranking-stop, ranking-all, part-rank}
-use Rattle.rows.specs.Plains.{plainValid, plainNumber}
+use Rattle.rows.specs.Plains.{plainValid, plainNumber, PlainRank}
 use Rattle.rows.proofs.numbering.number_each.Statement.{statement}
 use Rattle.rows.proofs.numbering.number_each.Tie as tie
-use Rattle.rows.proofs.numbering.number_each.Reads as reads
-use Rattle.rows.proofs.numbering.number_each.Lts as lts
-use Rattle.lines.proofs.part.Reads as part-reads
-use Rattle.rows.proofs.numbering.read.Reads as read-reads
 
 abbrev Inv-loop : tie.InvT-loop
-Inv-loop val c bytes from ends numbers₀ at₀ i₀ numbers at i =
-    Ranking (plainValid c) (plainNumber c) from ends bytes numbers₀ i at numbers
+Inv-loop val c bytes from ends numbers₀ at₀ i₀ numbers at i = Ranking (plainValid c) (plainNumber c) from ends bytes numbers₀ i at numbers
 
 abbrev μ-loop : tie.MeasureT-loop
 μ-loop val c bytes from ends numbers₀ at₀ i₀ numbers at i = length ends - i
 
--- src/numbering.rt:106:5
+-- what is read of the next edge
+rank : (c : tie.After-read Inv-loop μ-loop) {q : Rank} → c .read .result ≡ q →
+    let at = c .before .before .before .before .loop in
+    let args = c .before .before .before .before .before .before .before .before .before .args in
+    PlainRank (args .c) (partOf (args .bytes .now) (at .at) (getD (args .ends .now) (at .i) 0)) q
+rank c e =
+    let plain = c .before .before .before .before .before .before .before .before .before .args .c in
+    part-rank (plainValid plain) (plainNumber plain) _ _ _ _ (c .before .part .ensures) (c .read .ensures) e
+
 loop-holds : tie.Need-loop-holds Inv-loop μ-loop
-loop-holds c =
-    ranking-none _ _ _ _ _ _ (c .before .before .before .before .pre .1)
+loop-holds c = ranking-none _ _ _ _ _ _ (c .before .before .before .before .pre .1)
 
--- src/numbering.rt:107:19
 mul-end : tie.Need-mul-end Inv-loop μ-loop
-mul-end c =
-    search needs
+mul-end c = search needs
 
--- src/numbering.rt:107:19
 shared-slice-read-end : tie.Need-shared-slice-read-end Inv-loop μ-loop
-shared-slice-read-end c =
-    search needs
+shared-slice-read-end c = search needs
 
--- src/numbering.rt:108:40
 part-requires : tie.Need-part-requires Inv-loop μ-loop
-part-requires c κs =
-    search needs
+part-requires c κs = search needs
 
--- src/numbering.rt:108:27
 read-requires : tie.Need-read-requires Inv-loop μ-loop
-read-requires c κs =
-    c .before .before .before .before .before .before .before .before .pre .0
+read-requires c κs = c .before .before .before .before .before .before .before .before .pre .0
 
--- src/numbering.rt:108:22
 enum-known-r : tie.Need-enum-known-r Inv-loop μ-loop
-enum-known-r c =
-    search needs
+enum-known-r c = search needs
 
--- src/numbering.rt:109:13
 enum-told : tie.Need-enum-told Inv-loop μ-loop
-enum-told c =
-    search needs
+enum-told c = search needs
 
--- src/numbering.rt:109:13
 same-length : tie.Need-same-length Inv-loop μ-loop
-same-length c =
-    c .before .before .before .before .before .before .loop .inv .as-many
+same-length c = c .before .before .before .before .before .before .loop .inv .as-many
 
--- src/numbering.rt:109:13
 returns : tie.Need-returns Inv-loop μ-loop
-returns c =
-    ranking-stop _ _ _ _ _ _ _ _ _ (c .before .before .before .before .before .before .loop .inv) (c .before .before .before .before .before .loop-test .taken) (part-rank (plainValid (c .before .before .before .before .before .before .before .before .before .before .before .args .c)) (plainNumber (c .before .before .before .before .before .before .before .before .before .before .before .args .c)) _ _ _ _ (c .before .before .before .part .ensures) (c .before .before .read .ensures) (c .enum-told .given .1))
+returns c = ranking-stop _ _ _ _ _ _ _ _ _ (c .before .before .before .before .before .before .loop .inv) (c .before .before .before .before .before .loop-test .taken) (rank (c .before .before) (c .enum-told .given .1))
 
--- src/numbering.rt:111:9
 mul-numbers : tie.Need-mul-numbers Inv-loop μ-loop
-mul-numbers c =
-    search needs
+mul-numbers c = search needs
 
--- src/numbering.rt:111:9
 slice-write-numbers : tie.Need-slice-write-numbers Inv-loop μ-loop
-slice-write-numbers c =
-    ranking-room _ _ _ _ _ _ _ _ _ (c .before .before .before .before .before .before .before .loop .inv) (c .before .before .before .before .before .before .loop-test .taken)
+slice-write-numbers c = ranking-room _ _ _ _ _ _ _ _ _ (c .before .before .before .before .before .before .before .loop .inv) (c .before .before .before .before .before .before .loop-test .taken)
 
--- src/numbering.rt:113:9
 add-i : tie.Need-add-i Inv-loop μ-loop
-add-i c =
-    search needs
+add-i c = search needs
 
--- src/numbering.rt:106:5
 loop-less : tie.Need-loop-less Inv-loop μ-loop
-loop-less c =
-    search needs
+loop-less c = search needs
 
--- src/numbering.rt:106:5
 loop-again : tie.Need-loop-again Inv-loop μ-loop
 loop-again c =
-    let w = part-rank (plainValid (c .before .before .before .before .before .before .before .before .before .before .before .before .args .c)) (plainNumber (c .before .before .before .before .before .before .before .before .before .before .before .before .args .c)) _ _ _ _ (c .before .before .before .before .part .ensures) (c .before .before .before .read .ensures) (c .before .r .given .1) in ranking-next _ _ _ _ _ _ _ _ _ (c .before .before .before .before .before .before .before .loop .inv) _ (c .before .before .before .before .before .before .loop-test .taken) (w .0) (w .1)
+    let w = rank (c .before .before .before) (c .before .r .given .1) in
+    ranking-next _ _ _ _ _ _ _ _ _ (c .before .before .before .before .before .before .before .loop .inv) _ (c .before .before .before .before .before .before .loop-test .taken) (w .0) (w .1)
 
--- src/numbering.rt:93:1
 same-length-2 : tie.Need-same-length-2 Inv-loop μ-loop
-same-length-2 c =
-    c .before .loop .inv .as-many
+same-length-2 c = c .before .loop .inv .as-many
 
--- src/numbering.rt:93:1
 returns-2 : tie.Need-returns-2 Inv-loop μ-loop
-returns-2 c =
-    ranking-all _ _ _ _ _ _ _ _ _ (c .before .loop .inv) (c .loop-test .left)
+returns-2 c = ranking-all _ _ _ _ _ _ _ _ _ (c .before .loop .inv) (c .loop-test .left)
 
 pub number-each-spec : {M : Type 1} → statement M
 number-each-spec =
     tie.close
     (tie.spec
-    Inv-loop
-    μ-loop
-    loop-holds
-    mul-end
-    shared-slice-read-end
-    part-requires
-    read-requires
-    enum-known-r
-    enum-told
-    same-length
-    returns
-    mul-numbers
-    slice-write-numbers
-    add-i
-    loop-less
-    loop-again
-    same-length-2
-    returns-2)
+    Inv-loop μ-loop loop-holds mul-end shared-slice-read-end part-requires read-requires enum-known-r enum-told same-length returns
+    mul-numbers slice-write-numbers add-i loop-less loop-again same-length-2 returns-2)

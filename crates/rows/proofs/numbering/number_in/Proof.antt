@@ -8,51 +8,39 @@ use Rattle.rows.proofs.numbering.number_in.Statement.{statement}
 use Rattle.rows.proofs.numbering.number_in.Tie as tie
 
 fill-rows-requires : tie.Need-fill-rows-requires
-fill-rows-requires c κs =
-    search needs
+fill-rows-requires c κs = search needs
 
 enum-told : tie.Need-enum-told
-enum-told c =
-    search needs
+enum-told c = search needs
 
 same-length : tie.Need-same-length
-same-length c =
-    search needs
+same-length c = search needs
 
 returns : tie.Need-returns
 returns c =
     ranks-over true (plainPlan (c .before .before .before .before .before .before .before .before .before .before .args .c)) _ _ _ _ (filled-over (c .before .before .before .before .fill-rows .ensures) (c .enum-told .given .1))
 
 enum-told-2 : tie.Need-enum-told-2
-enum-told-2 c =
-    search needs
+enum-told-2 c = search needs
 
 number-each-requires : tie.Need-number-each-requires
 number-each-requires c κs =
-    (filled-readable (c .before .before .before .before .before .before .fill-rows .ensures) (c .before .before .enum-told2 .given .1) (c .before .before .before .before .before .before .before .before .before .before .before .before .pre .0) (search needs), c .before .before .before .before .before .before .before .before .before .before .before .before .pre .1)
+    let pre = c .before .before .before .before .before .before .before .before .before .before .before .before .pre in
+    (filled-readable (c .before .before .before .before .before .before .fill-rows .ensures) (c .before .before .enum-told2 .given .1) (pre .0) (search needs), pre .1)
 
 same-length-2 : tie.Need-same-length-2
-same-length-2 c =
-    search needs
+same-length-2 c = search needs
 
 same-length-3 : tie.Need-same-length-3
-same-length-3 c =
-    search needs
+same-length-3 c = search needs
 
 returns-2 : tie.Need-returns-2
 returns-2 c =
-    ranks-fit true (plainPlan (c .before .before .before .before .before .before .before .before .before .before .before .before .before .before .before .args .c)) _ _ _ _ _ _ (filled-count (c .before .before .before .before .before .before .before .before .before .fill-rows .ensures) (c .before .before .before .before .before .enum-told2 .given .1) .1) (c .before .before .number-each .ensures)
+    let count = filled-count (c .before .before .before .before .before .before .before .before .before .fill-rows .ensures) (c .before .before .before .before .before .enum-told2 .given .1) in
+    ranks-fit true (plainPlan (c .before .before .before .before .before .before .before .before .before .before .before .before .before .before .before .args .c)) _ _ _ _ _ _ (count .1) (c .before .before .number-each .ensures)
 
 pub number-in-spec : {M : Type 1} → statement M
 number-in-spec =
     tie.close
     (tie.spec
-    fill-rows-requires
-    enum-told
-    same-length
-    returns
-    enum-told-2
-    number-each-requires
-    same-length-2
-    same-length-3
-    returns-2)
+    fill-rows-requires enum-told same-length returns enum-told-2 number-each-requires same-length-2 same-length-3 returns-2)

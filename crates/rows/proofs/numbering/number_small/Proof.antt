@@ -47,15 +47,5 @@ pub number-small-spec : {M : Type 1} → statement M
 number-small-spec =
     tie.close
     (tie.spec
-    slice-aggregate-number-in
-    number-in-requires
-    same-length
-    returns
-    slice-aggregate-number-in-2
-    number-in-requires-2
-    same-length-2
-    returns-2
-    slice-aggregate-number-in-3
-    number-in-requires-3
-    same-length-3
-    returns-3)
+    slice-aggregate-number-in number-in-requires same-length returns slice-aggregate-number-in-2 number-in-requires-2 same-length-2
+    returns-2 slice-aggregate-number-in-3 number-in-requires-3 same-length-3 returns-3)

@@ -15,16 +15,13 @@ lesser-requires : tie.Need-lesser-requires
 lesser-requires c κs = search needs
 
 add-result-3 : tie.Need-add-result-3
-add-result-3 c =
-    omega (arith, cells-at (c .before .before .args .c) (c .before .before .pre) (c .lesser .ensures) .0)
+add-result-3 c = omega (arith, cells-at (c .before .before .args .c) (c .before .before .pre) (c .lesser .ensures) .0)
 
 mul-result : tie.Need-mul-result
-mul-result c =
-    omega (arith, cells-at (c .before .before .args .c) (c .before .before .pre) (c .lesser .ensures) .1)
+mul-result c = omega (arith, cells-at (c .before .before .args .c) (c .before .before .pre) (c .lesser .ensures) .1)
 
 returns : tie.Need-returns
-returns c =
-    cells-at (c .before .before .args .c) (c .before .before .pre) (c .lesser .ensures) .2
+returns c = cells-at (c .before .before .args .c) (c .before .before .pre) (c .lesser .ensures) .2
 
 pub cells-of-spec : {M : Type 1} → statement M
 cells-of-spec =

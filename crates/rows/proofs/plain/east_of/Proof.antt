@@ -12,15 +12,13 @@ rise-of-requires : tie.Need-rise-of-requires
 rise-of-requires c κs = search needs
 
 sub-result : tie.Need-sub-result
-sub-result c =
-    east-up (c .before .before .args .c) (c .rise-of .ensures) .0
+sub-result c = east-up (c .before .before .args .c) (c .rise-of .ensures) .0
 
 add-result : tie.Need-add-result
 add-result c = search needs
 
 returns : tie.Need-returns
-returns c =
-    omega (arith, c .before .stride-of .ensures, east-up (c .before .before .args .c) (c .rise-of .ensures) .1)
+returns c = omega (arith, c .before .stride-of .ensures, east-up (c .before .before .args .c) (c .rise-of .ensures) .1)
 
 pub east-of-spec : {M : Type 1} → statement M
 east-of-spec =

@@ -16,8 +16,7 @@ stride-of-requires : tie.Need-stride-of-requires
 stride-of-requires c κs = search needs
 
 mul-result : tie.Need-mul-result
-mul-result c =
-    omega (arith, end-at (c .before .before .args .c) (c .before .before .pre) (c .stride-of .ensures) refl .0)
+mul-result c = omega (arith, end-at (c .before .before .args .c) (c .before .before .pre) (c .stride-of .ensures) refl .0)
 
 lesser-requires : tie.Need-lesser-requires
 lesser-requires c κs = search needs
@@ -34,14 +33,4 @@ returns c =
     end-at (c .before .before .before .args .c) (c .before .before .before .pre) (c .before .stride-of .ensures) (c .lesser .ensures) .2
 
 pub end-of-spec : {M : Type 1} → statement M
-end-of-spec =
-    tie.close
-    (tie.spec
-    add-result
-    add-result-2
-    stride-of-requires
-    mul-result
-    lesser-requires
-    add-result-3
-    add-result-4
-    returns)
+end-of-spec = tie.close (tie.spec add-result add-result-2 stride-of-requires mul-result lesser-requires add-result-3 add-result-4 returns)

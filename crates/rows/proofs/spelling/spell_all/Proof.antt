@@ -18,8 +18,7 @@ abbrev μ-loop : tie.MeasureT-loop
 μ-loop val c numbers steps₀ ends₀ at₀ i₀ steps ends at i = length numbers - i
 
 loop-holds : tie.Need-loop-holds Inv-loop μ-loop
-loop-holds c =
-    lining-none _ _ _ _ (c .before .before .before .before .pre .2)
+loop-holds c = lining-none _ _ _ _ (c .before .before .before .before .pre .2)
 
 mul-spell-front : tie.Need-mul-spell-front Inv-loop μ-loop
 mul-spell-front c = search needs
@@ -28,16 +27,13 @@ shared-slice-read-spell-front : tie.Need-shared-slice-read-spell-front Inv-loop 
 shared-slice-read-spell-front c = search needs
 
 sub-spell-front : tie.Need-sub-spell-front Inv-loop μ-loop
-sub-spell-front c =
-    omega (arith, lining-room _ _ _ _ _ _ _ _ (c .before .before .loop .inv) (c .before .loop-test .taken))
+sub-spell-front c = omega (arith, lining-room _ _ _ _ _ _ _ _ (c .before .before .loop .inv) (c .before .loop-test .taken))
 
 part-spell-front-start : tie.Need-part-spell-front-start Inv-loop μ-loop
-part-spell-front-start c =
-    let h = lining-room _ _ _ _ _ _ _ _ (c .before .before .loop .inv) (c .before .loop-test .taken) in search needs
+part-spell-front-start c = let h = lining-room _ _ _ _ _ _ _ _ (c .before .before .loop .inv) (c .before .loop-test .taken) in search needs
 
 part-spell-front-end : tie.Need-part-spell-front-end Inv-loop μ-loop
-part-spell-front-end c =
-    let h = lining-room _ _ _ _ _ _ _ _ (c .before .before .loop .inv) (c .before .loop-test .taken) in search needs
+part-spell-front-end c = let h = lining-room _ _ _ _ _ _ _ _ (c .before .before .loop .inv) (c .before .loop-test .taken) in search needs
 
 spell-front-requires : tie.Need-spell-front-requires Inv-loop μ-loop
 spell-front-requires c κs =
@@ -65,36 +61,17 @@ loop-again c =
     front-next _ _ _ _ _ _ _ _ (c .before .before .before .before .before .before .loop .inv) _ _ (c .before .before .before .before .before .loop-test .taken) (c .before .before .spell-front .ensures)
 
 same-length : tie.Need-same-length Inv-loop μ-loop
-same-length c =
-    c .before .loop .inv .as-long
+same-length c = c .before .loop .inv .as-long
 
 same-length-2 : tie.Need-same-length-2 Inv-loop μ-loop
-same-length-2 c =
-    c .before .loop .inv .as-many
+same-length-2 c = c .before .loop .inv .as-many
 
 returns : tie.Need-returns Inv-loop μ-loop
-returns c =
-    lining-all _ _ _ _ _ _ _ _ (c .before .loop .inv) (omega (arith, c .before .loop .inv .passed))
+returns c = lining-all _ _ _ _ _ _ _ _ (c .before .loop .inv) (omega (arith, c .before .loop .inv .passed))
 
 pub spell-all-spec : {M : Type 1} → statement M
 spell-all-spec =
     tie.close
     (tie.spec
-    Inv-loop
-    μ-loop
-    loop-holds
-    mul-spell-front
-    shared-slice-read-spell-front
-    sub-spell-front
-    part-spell-front-start
-    part-spell-front-end
-    spell-front-requires
-    add-at
-    mul-ends
-    slice-write-ends
-    add-i
-    loop-less
-    loop-again
-    same-length
-    same-length-2
-    returns)
+    Inv-loop μ-loop loop-holds mul-spell-front shared-slice-read-spell-front sub-spell-front part-spell-front-start part-spell-front-end
+    spell-front-requires add-at mul-ends slice-write-ends add-i loop-less loop-again same-length same-length-2 returns)

@@ -37,12 +37,4 @@ pub spell-front-spec : {M : Type 1} → statement M
 spell-front-spec =
     tie.close
     (tie.spec
-    slice-aggregate-spell
-    spell-requires
-    sub-put
-    part-put-start
-    part-put-end
-    put-requires
-    sub-result
-    same-length
-    returns)
+    slice-aggregate-spell spell-requires sub-put part-put-start part-put-end put-requires sub-result same-length returns)

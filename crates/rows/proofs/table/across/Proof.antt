@@ -23,6 +23,4 @@ returns-2 : tie.Need-returns-2
 returns-2 c = rw (c .if1 .left) refl
 
 pub across-spec : {M : Type 1} → statement M
-across-spec =
-    tie.close
-    (tie.spec sub-result sub-result-2 mul-result shared-slice-read-result returns returns-2)
+across-spec = tie.close (tie.spec sub-result sub-result-2 mul-result shared-slice-read-result returns returns-2)

@@ -21,23 +21,26 @@ abbrev μ-loop : tie.MeasureT-loop
 μ-loop val₀ c ey y₀ val y = plainPlan c .ey + 1 - y
 
 lesser-requires : tie.Need-lesser-requires Inv-loop μ-loop
-lesser-requires c κs =
-    tt
+lesser-requires c κs = tt
 
 loop-holds : tie.Need-loop-holds Inv-loop μ-loop
-loop-holds c =
-    (refl, omega arith, c .before .before .pre .ready, rows-none (c .before .before .pre .zero-at))
+loop-holds c = (refl, omega arith, c .before .before .pre .ready, rows-none (c .before .before .pre .zero-at))
 
 row-requires : tie.Need-row-requires Inv-loop μ-loop
 row-requires c κs =
-    record { ready = c .before .before .loop .inv .2; steps = plain-steps (c .before .before .before .before .before .args .c); rows = c .before .before .loop .inv .3; inside = (omega (arith, c .before .loop-test .taken, c .before .before .before .lesser .ensures)) }
+    let inv = c .before .before .loop .inv in
+    record {
+      ready = inv .2;
+      steps = plain-steps (c .before .before .before .before .before .args .c);
+      rows = inv .3;
+      inside = omega (arith, c .before .loop-test .taken, c .before .before .before .lesser .ensures);
+    }
 
 same-length : tie.Need-same-length Inv-loop μ-loop
 same-length c = search needs
 
 returns : tie.Need-returns Inv-loop μ-loop
-returns c =
-    risen-over (c .before .before .before .row .ensures .over (not-true _ (c .if1 .taken))) refl
+returns c = risen-over (c .before .before .before .row .ensures .over (not-true _ (c .if1 .taken))) refl
 
 add-y : tie.Need-add-y Inv-loop μ-loop
 add-y c =
@@ -49,7 +52,12 @@ loop-less c =
 
 loop-again : tie.Need-loop-again Inv-loop μ-loop
 loop-again c =
-    (omega (arith, c .before .before .before .before .before .before .loop .inv .0), omega (arith, c .before .before .before .before .before .loop-test .taken, c .before .before .before .before .before .before .before .lesser .ensures), ready-len (c .before .before .before .before .before .before .loop .inv .2) (omega arith), c .before .before .before .row .ensures .rows (not-false _ (c .if1 .left)))
+    let inv = c .before .before .before .before .before .before .loop .inv in (
+      omega (arith, inv .0),
+      omega (arith, c .before .before .before .before .before .loop-test .taken, c .before .before .before .before .before .before .before .lesser .ensures),
+      ready-len (inv .2) (omega arith),
+      c .before .before .before .row .ensures .rows (not-false _ (c .if1 .left)),
+    )
 
 same-length-2 : tie.Need-same-length-2 Inv-loop μ-loop
 same-length-2 c = search needs
@@ -62,15 +70,4 @@ pub all-rows-spec : {M : Type 1} → statement M
 all-rows-spec =
     tie.close
     (tie.spec
-    Inv-loop
-    μ-loop
-    lesser-requires
-    loop-holds
-    row-requires
-    same-length
-    returns
-    add-y
-    loop-less
-    loop-again
-    same-length-2
-    returns-2)
+    Inv-loop μ-loop lesser-requires loop-holds row-requires same-length returns add-y loop-less loop-again same-length-2 returns-2)

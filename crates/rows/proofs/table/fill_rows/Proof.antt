@@ -15,16 +15,13 @@ same-length : tie.Need-same-length
 same-length c = search needs
 
 returns : tie.Need-returns
-returns c =
-    rows-over (c .before .before .before .all-rows .ensures .over (not-true _ (c .if1 .taken)))
+returns c = rows-over (c .before .before .before .all-rows .ensures .over (not-true _ (c .if1 .taken)))
 
 end-of-requires : tie.Need-end-of-requires
-end-of-requires c κs =
-    c .before .before .before .before .before .before .pre .ready .sizes
+end-of-requires c κs = c .before .before .before .before .before .before .pre .ready .sizes
 
 mul-v : tie.Need-mul-v
-mul-v c =
-    omega (arith, c .end-of .ensures, end-cells (c .before .before .before .before .before .before .before .pre .ready))
+mul-v c = omega (arith, c .end-of .ensures, end-cells (c .before .before .before .before .before .before .before .pre .ready))
 
 slice-read-v : tie.Need-slice-read-v
 slice-read-v c =
@@ -38,14 +35,4 @@ returns-2 c =
     filled-to-end (c .before .before .before .before .before .all-rows .ensures .got (not-false _ (c .before .before .if1 .left))) refl (λ j. omega (arith, c .before .before .before .slice-known2 .given j)) refl (c .before .end-of .ensures)
 
 pub fill-rows-spec : {M : Type 1} → statement M
-fill-rows-spec =
-    tie.close
-    (tie.spec
-    all-rows-requires
-    same-length
-    returns
-    end-of-requires
-    mul-v
-    slice-read-v
-    same-length-2
-    returns-2)
+fill-rows-spec = tie.close (tie.spec all-rows-requires same-length returns end-of-requires mul-v slice-read-v same-length-2 returns-2)

@@ -24,6 +24,4 @@ returns-2 : tie.Need-returns-2
 returns-2 c = rw (ne-eqb _ 0 (c .before .if1 .left)) refl
 
 pub first-spec : {M : Type 1} → statement M
-first-spec =
-    tie.close
-    (tie.spec returns sub-result sub-result-2 mul-result shared-slice-read-result returns-2)
+first-spec = tie.close (tie.spec returns sub-result sub-result-2 mul-result shared-slice-read-result returns-2)
