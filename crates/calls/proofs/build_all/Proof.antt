@@ -1,9 +1,7 @@
 -- `calls::build_all` meets its contract: the crate that has the family answers, or none has it. Assumes nothing.
 use mathlib.Core.Path.{_≡_, sym, _∙_}
-use mathlib.Core.Bool.{false}
 use borrow.Author.Needs.{needs}
 use borrow.Author.Tests.{not-true, not-false}
-use Rattle.rules.specs.Blocks.{familyOf, square, plain, paired}
 use Rattle.calls.proofs.Routes.{taken-lines, passed-lines, lines-over, lines-short-over, none-lines-over}
 use Rattle.calls.proofs.build_all.Statement.{statement}
 use Rattle.calls.proofs.build_all.Tie as tie
@@ -16,54 +14,54 @@ found : tie.Need-build-all-requires × tie.Need-enum-known-r × tie.Need-same-le
 found = search needs
 
 -- a crate that hasn't the family leaves what was lent
-passed-arch : (c : tie.After-enum-told) →
+same-arch : (c : tie.After-enum-told) →
     let args = c .before .before .before .before .before .before .before .before .before .before .before .before .before .args in
     let last = c .before .before .before .before .before .before .build-all .last in
-    (square (familyOf (args .block .now)) ≡ false) × (last .1 .1 .0 ≡ args .steps .now) × (last .1 .1 .1 .0 ≡ args .ends .now)
-passed-arch c = passed-lines (c .before .before .before .before .before .before .build-all .ensures) (c .enum-told .given .1)
+    (last .1 .1 .0 ≡ args .steps .now) × (last .1 .1 .1 .0 ≡ args .ends .now)
+same-arch c =
+    let passed = passed-lines (c .before .before .before .before .before .before .build-all .ensures) (c .enum-told .given .1) in
+    (passed .1, passed .2)
 
-passed-rows : (c : tie.After-enum-told2) →
+same-rows : (c : tie.After-enum-told2) →
     let args = c .before .before .before .before .before .before .before .before .before .before .before .before .before .before .before .before .before .before .before .before .before .before .args in
     let last = c .before .before .before .before .before .before .build-all2 .last in
-    (plain (familyOf (args .block .now)) ≡ false) × (last .1 .1 .0 ≡ args .steps .now) × (last .1 .1 .1 .0 ≡ args .ends .now)
-passed-rows c =
+    (last .1 .1 .0 ≡ args .steps .now) × (last .1 .1 .1 .0 ≡ args .ends .now)
+same-rows c =
     let passed = passed-lines (c .before .before .before .before .before .before .build-all2 .ensures) (c .enum-told2 .given .1) in
-    let older = passed-arch (c .before .before .before .before .before .before .before .before .before) in
-    (passed .0, passed .1 ∙ older .1, passed .2 ∙ older .2)
+    (passed .1 ∙ same-arch (c .before .before .before .before .before .before .before .before .before) .0, passed .2 ∙ same-arch (c .before .before .before .before .before .before .before .before .before) .1)
 
-passed-grid : (c : tie.After-enum-told3) →
+same-grid : (c : tie.After-enum-told3) →
     let args = c .before .before .before .before .before .before .before .before .before .before .before .before .before .before .before .before .before .before .before .before .before .before .before .before .before .before .before .before .before .before .before .args in
     let last = c .before .before .before .before .before .before .build-all3 .last in
-    (paired (familyOf (args .block .now)) ≡ false) × (last .1 .1 .0 ≡ args .steps .now) × (last .1 .1 .1 .0 ≡ args .ends .now)
-passed-grid c =
+    (last .1 .1 .0 ≡ args .steps .now) × (last .1 .1 .1 .0 ≡ args .ends .now)
+same-grid c =
     let passed = passed-lines (c .before .before .before .before .before .before .build-all3 .ensures) (c .enum-told3 .given .1) in
-    let older = passed-rows (c .before .before .before .before .before .before .before .before .before) in
-    (passed .0, passed .1 ∙ older .1, passed .2 ∙ older .2)
+    (passed .1 ∙ same-rows (c .before .before .before .before .before .before .before .before .before) .0, passed .2 ∙ same-rows (c .before .before .before .before .before .before .before .before .before) .1)
 
 returns : tie.Need-returns
 returns c = taken-lines (c .before .before .before .before .before .before .before .build-all .ensures) _ (c .before .r .given .1)
 
 returns-2 : tie.Need-returns-2
 returns-2 c =
-    lines-over _ _ _ (passed-arch (c .before .before .before .before .before .before .before .before .before .before) .1) (passed-arch (c .before .before .before .before .before .before .before .before .before .before) .2)
+    lines-over _ _ _ (same-arch (c .before .before .before .before .before .before .before .before .before .before) .0) (same-arch (c .before .before .before .before .before .before .before .before .before .before) .1)
     (taken-lines (c .before .before .before .before .before .before .before .build-all2 .ensures) _ (c .before .r2 .given .1))
 
 returns-3 : tie.Need-returns-3
 returns-3 c =
-    lines-over _ _ _ (passed-rows (c .before .before .before .before .before .before .before .before .before .before) .1) (passed-rows (c .before .before .before .before .before .before .before .before .before .before) .2)
+    lines-over _ _ _ (same-rows (c .before .before .before .before .before .before .before .before .before .before) .0) (same-rows (c .before .before .before .before .before .before .before .before .before .before) .1)
     (taken-lines (c .before .before .before .before .before .before .before .build-all3 .ensures) _ (c .before .r3 .given .1))
 
 returns-4 : tie.Need-returns-4
 returns-4 c =
-    let same = passed-grid (c .before .before) in
-    lines-short-over _ _ (same .1) (same .2) (sym (c .before .has-room .ensures) ∙ not-true _ (c .if1 .taken))
+    let same = same-grid (c .before .before) in
+    lines-short-over _ _ (same .0) (same .1) (sym (c .before .has-room .ensures) ∙ not-true _ (c .if1 .taken))
 
 returns-5 : tie.Need-returns-5
 returns-5 c =
-    let at = c .before .before in
-    let same = passed-grid at in
-    none-lines-over (at .before .before .before .before .before .before .before .before .before .before .before .before .before .before .before .before .before .before .before .before .before .before .before .before .before .before .before .before .before .before .before .args .block .now) (passed-arch (at .before .before .before .before .before .before .before .before .before .before .before .before .before .before .before .before .before .before) .0) (passed-rows (at .before .before .before .before .before .before .before .before .before) .0) (same .0) _ (same .1) (same .2)
-    (sym (c .before .has-room .ensures) ∙ not-false _ (c .if1 .left))
+    none-lines-over (c .before .before .before .before .before .before .before .before .before .before .before .before .before .before .before .before .before .before .before .before .before .before .before .before .before .before .before .before .before .before .before .before .before .args .block .now) (passed-lines (c .before .before .before .before .before .before .before .before .before .before .before .before .before .before .before .before .before .before .before .before .before .before .before .before .before .before .build-all .ensures) (c .before .before .before .before .before .before .before .before .before .before .before .before .before .before .before .before .before .before .before .before .enum-told .given .1) .0)
+    (passed-lines (c .before .before .before .before .before .before .before .before .before .before .before .before .before .before .before .before .before .build-all2 .ensures) (c .before .before .before .before .before .before .before .before .before .before .before .enum-told2 .given .1) .0)
+    (passed-lines (c .before .before .before .before .before .before .before .before .build-all3 .ensures) (c .before .before .enum-told3 .given .1) .0) _ (same-grid (c .before .before) .0)
+    (same-grid (c .before .before) .1) (sym (c .before .has-room .ensures) ∙ not-false _ (c .if1 .left))
 
 pub build-all-spec : {M : Type 1} → statement M
 build-all-spec =
