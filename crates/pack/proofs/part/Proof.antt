@@ -46,13 +46,4 @@ returns-3 c = sym (ap reply (part-at (c .before .before .before .before .before 
 
 pub part-spec : {M : Type 1} → statement M
 part-spec =
-    tie.close
-    (tie.spec
-    refusal-of-requires
-    returns
-    edge-count-requires
-    returns-2
-    offset-at-requires
-    add-offset-at
-    offset-at-requires-2
-    returns-3)
+    tie.close (tie.spec refusal-of-requires returns edge-count-requires returns-2 offset-at-requires add-offset-at offset-at-requires-2 returns-3)

@@ -25,7 +25,9 @@ next-row-requires c κs =
 
 returns : tie.Need-returns Inv-loop μ-loop
 returns c =
-    over-says (c .before .before .before .before .before .args .diagonal) (c .before .before .before .before .before .args .n) (c .before .before .before .before .before .args .m) (over-later (c .before .before .before .before .before .args .diagonal) (c .before .before .before .before .before .args .n) (c .before .before .before .before .before .args .m) (c .before .before .before .before .loop .j) (c .before .before .before .loop-test .taken) (c .before .next-row .ensures .over _ (c .before .before .before .before .loop .inv .2) (not-true _ (c .if1 .taken))))
+    let args = c .before .before .before .before .before .args in
+    over-says (args .diagonal) (args .n) (args .m)
+    (over-later (args .diagonal) (args .n) (args .m) (c .before .before .before .before .loop .j) (c .before .before .before .loop-test .taken) (c .before .next-row .ensures .over _ (c .before .before .before .before .loop .inv .2) (not-true _ (c .if1 .taken))))
 
 add-j : tie.Need-add-j Inv-loop μ-loop
 add-j c =
@@ -49,20 +51,10 @@ array-read-t12 c =
 
 returns-2 : tie.Need-returns-2 Inv-loop μ-loop
 returns-2 c =
-    count-says (c .before .before .args .diagonal) (c .before .before .args .n) (c .before .before .args .m) (c .before .loop .j) _ (at-last _ _ (c .before .loop .inv .0) (c .loop-test .left)) (row-last (c .before .before .args .diagonal) (c .before .before .args .n) _ _ (c .before .loop .inv .2)) (c .before .loop .inv .3)
+    let args = c .before .before .args in
+    count-says (args .diagonal) (args .n) (args .m) (c .before .loop .j) _ (at-last _ _ (c .before .loop .inv .0) (c .loop-test .left))
+    (row-last (args .diagonal) (args .n) _ _ (c .before .loop .inv .2)) (c .before .loop .inv .3)
 
 pub count-rows-spec : {M : Type 1} → statement M
 count-rows-spec =
-    tie.close
-    (tie.spec
-    Inv-loop
-    μ-loop
-    loop-holds
-    next-row-requires
-    returns
-    add-j
-    loop-less
-    loop-again
-    mul-t9
-    array-read-t12
-    returns-2)
+    tie.close (tie.spec Inv-loop μ-loop loop-holds next-row-requires returns add-j loop-less loop-again mul-t9 array-read-t12 returns-2)
