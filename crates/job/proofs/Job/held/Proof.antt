@@ -23,7 +23,26 @@ raises = search needs
 
 returns : tie.Need-returns
 unfolding heldBy
-returns c = simp (c .before .before .before .before .before .before .before .before .before .before .before .before .before .before .before .before .before .before .before .raise .ensures, c .before .before .before .before .before .before .before .before .before .before .before .before .before .before .before .before .before .raise2 .ensures, c .before .before .before .before .before .before .before .before .before .before .before .before .before .before .before .raise3 .ensures, c .before .before .before .before .before .before .before .before .before .before .before .before .before .raise4 .ensures, c .before .before .before .before .before .before .before .before .before .before .before .raise5 .ensures, c .before .before .before .before .before .before .before .before .before .raise6 .ensures, c .before .before .before .before .before .before .before .raise7 .ensures, c .before .before .before .before .before .raise8 .ensures, c .before .raise9 .ensures)
+returns c =
+    let eighth = c .before .before .before .before .before in
+    let seventh = eighth .before .before in
+    let sixth = seventh .before .before in
+    let fifth = sixth .before .before in
+    let fourth = fifth .before .before in
+    let third = fourth .before .before in
+    let second = third .before .before in
+    let first = second .before .before in
+    simp (
+      first .raise .ensures,
+      second .raise2 .ensures,
+      third .raise3 .ensures,
+      fourth .raise4 .ensures,
+      fifth .raise5 .ensures,
+      sixth .raise6 .ensures,
+      seventh .raise7 .ensures,
+      eighth .raise8 .ensures,
+      c .before .raise9 .ensures,
+    )
 
 pub held-spec : {M : Type 1} → statement M
 held-spec =
