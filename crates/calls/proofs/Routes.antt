@@ -39,7 +39,7 @@ use Rattle.lines.proofs.Lining.{lined-refused, lines-short, lines-room}
 use Rattle.lines.proofs.Mines.{not-mine, count-mine, ranks-mine, lines-mine, ranks-other, lines-other}
 use Rattle.lines.proofs.Ranking.{ranked-refused, ranks-told, ranks-room}
 
-module _ (b : List ℕ) (s : square (familyOf b) ≡ false) (p : plain (familyOf b) ≡ false) (q : paired (familyOf b) ≡ false) where
+module _ (b : List ℕ) (p : plain (familyOf b) ≡ false) (s : square (familyOf b) ≡ false) (q : paired (familyOf b) ≡ false) where
   none-known : knownJob b ≡ refused form
   none-known = known-told b form (unformed b (no-family b s p q))
 
@@ -95,11 +95,11 @@ pub lines-short-over : (a : Answer (List (List ℕ))) (ns : List ℕ) {steps len
     → roomy (length ns) (length lent-steps) (length lent-ends) ≡ false → WroteAs (lines a ns steps ends) NoLines lent-steps lent-ends
 lines-short-over a ns {steps} {lent-steps} {ends} {lent-ends} e q h = lines-over a ns NoLines e q (lines-short a ns lent-steps lent-ends h)
 
-pub none-lines-over : (b : List ℕ) → square (familyOf b) ≡ false → plain (familyOf b) ≡ false → paired (familyOf b) ≡ false
+pub none-lines-over : (b : List ℕ) → plain (familyOf b) ≡ false → square (familyOf b) ≡ false → paired (familyOf b) ≡ false
     → (ns : List ℕ) {steps lent-steps ends lent-ends : List ℕ} → lent-steps ≡ steps → lent-ends ≡ ends
     → roomy (length ns) (length lent-steps) (length lent-ends) ≡ true → WroteAs (lines (edgesAnswer b ns) ns steps ends) (Wrote·Answer (NotBuilt 1)) lent-steps lent-ends
-none-lines-over b s p q ns {steps} {lent-steps} {ends} {lent-ends} e f h =
-    lines-over (edgesAnswer b ns) ns (Wrote·Answer (NotBuilt 1)) e f (none-lines b s p q ns lent-steps lent-ends h)
+none-lines-over b p s q ns {steps} {lent-steps} {ends} {lent-ends} e f h =
+    lines-over (edgesAnswer b ns) ns (Wrote·Answer (NotBuilt 1)) e f (none-lines b p s q ns lent-steps lent-ends h)
 
 -- a reply, its value changed by f
 abbrev pub along : (ℕ → ℕ) → Reply ℕ → Reply ℕ

@@ -14,21 +14,21 @@ found : tie.Need-build-all-requires × tie.Need-enum-known-r × tie.Need-same-le
 found = search needs
 
 -- a crate that hasn't the family leaves what was lent
-same-arch : (c : tie.After-enum-told) →
+same-rows : (c : tie.After-enum-told) →
     let args = c .before .before .before .before .before .before .before .before .before .before .before .before .before .args in
     let last = c .before .before .before .before .before .before .build-all .last in
     (last .1 .1 .0 ≡ args .steps .now) × (last .1 .1 .1 .0 ≡ args .ends .now)
-same-arch c =
+same-rows c =
     let passed = passed-lines (c .before .before .before .before .before .before .build-all .ensures) (c .enum-told .given .1) in
     (passed .1, passed .2)
 
-same-rows : (c : tie.After-enum-told2) →
+same-arch : (c : tie.After-enum-told2) →
     let args = c .before .before .before .before .before .before .before .before .before .before .before .before .before .before .before .before .before .before .before .before .before .before .args in
     let last = c .before .before .before .before .before .before .build-all2 .last in
     (last .1 .1 .0 ≡ args .steps .now) × (last .1 .1 .1 .0 ≡ args .ends .now)
-same-rows c =
+same-arch c =
     let passed = passed-lines (c .before .before .before .before .before .before .build-all2 .ensures) (c .enum-told2 .given .1) in
-    (passed .1 ∙ same-arch (c .before .before .before .before .before .before .before .before .before) .0, passed .2 ∙ same-arch (c .before .before .before .before .before .before .before .before .before) .1)
+    (passed .1 ∙ same-rows (c .before .before .before .before .before .before .before .before .before) .0, passed .2 ∙ same-rows (c .before .before .before .before .before .before .before .before .before) .1)
 
 same-grid : (c : tie.After-enum-told3) →
     let args = c .before .before .before .before .before .before .before .before .before .before .before .before .before .before .before .before .before .before .before .before .before .before .before .before .before .before .before .before .before .before .before .args in
@@ -36,19 +36,19 @@ same-grid : (c : tie.After-enum-told3) →
     (last .1 .1 .0 ≡ args .steps .now) × (last .1 .1 .1 .0 ≡ args .ends .now)
 same-grid c =
     let passed = passed-lines (c .before .before .before .before .before .before .build-all3 .ensures) (c .enum-told3 .given .1) in
-    (passed .1 ∙ same-rows (c .before .before .before .before .before .before .before .before .before) .0, passed .2 ∙ same-rows (c .before .before .before .before .before .before .before .before .before) .1)
+    (passed .1 ∙ same-arch (c .before .before .before .before .before .before .before .before .before) .0, passed .2 ∙ same-arch (c .before .before .before .before .before .before .before .before .before) .1)
 
 returns : tie.Need-returns
 returns c = taken-lines (c .before .before .before .before .before .before .before .build-all .ensures) _ (c .before .r .given .1)
 
 returns-2 : tie.Need-returns-2
 returns-2 c =
-    lines-over _ _ _ (same-arch (c .before .before .before .before .before .before .before .before .before .before) .0) (same-arch (c .before .before .before .before .before .before .before .before .before .before) .1)
+    lines-over _ _ _ (same-rows (c .before .before .before .before .before .before .before .before .before .before) .0) (same-rows (c .before .before .before .before .before .before .before .before .before .before) .1)
     (taken-lines (c .before .before .before .before .before .before .before .build-all2 .ensures) _ (c .before .r2 .given .1))
 
 returns-3 : tie.Need-returns-3
 returns-3 c =
-    lines-over _ _ _ (same-rows (c .before .before .before .before .before .before .before .before .before .before) .0) (same-rows (c .before .before .before .before .before .before .before .before .before .before) .1)
+    lines-over _ _ _ (same-arch (c .before .before .before .before .before .before .before .before .before .before) .0) (same-arch (c .before .before .before .before .before .before .before .before .before .before) .1)
     (taken-lines (c .before .before .before .before .before .before .before .build-all3 .ensures) _ (c .before .r3 .given .1))
 
 returns-4 : tie.Need-returns-4

@@ -14,12 +14,12 @@ found = search needs
 returns : tie.Need-returns
 returns c =
     let block = c .before .before .before .before .before .args .block .now in
-    taken-count (square (familyOf block)) (countAnswer block) _ (c .before .before .before .count .ensures) _ (c .before .r .given .1)
+    taken-count (plain (familyOf block)) (countAnswer block) _ (c .before .before .before .count .ensures) _ (c .before .r .given .1)
 
 returns-2 : tie.Need-returns-2
 returns-2 c =
     let block = c .before .before .before .before .before .before .before .before .args .block .now in
-    taken-count (plain (familyOf block)) (countAnswer block) _ (c .before .before .before .count2 .ensures) _ (c .before .r2 .given .1)
+    taken-count (square (familyOf block)) (countAnswer block) _ (c .before .before .before .count2 .ensures) _ (c .before .r2 .given .1)
 
 returns-3 : tie.Need-returns-3
 returns-3 c =
@@ -29,8 +29,8 @@ returns-3 c =
 returns-4 : tie.Need-returns-4
 returns-4 c =
     let block = c .before .before .before .before .before .before .before .before .before .before .args .block .now in
-    none-counts block (passed-count (square (familyOf block)) (countAnswer block) _ (c .before .before .before .before .before .before .before .before .count .ensures) (c .before .before .before .before .before .before .enum-told .given .1))
-    (passed-count (plain (familyOf block)) (countAnswer block) _ (c .before .before .before .before .before .count2 .ensures) (c .before .before .before .enum-told2 .given .1))
+    none-counts block (passed-count (plain (familyOf block)) (countAnswer block) _ (c .before .before .before .before .before .before .before .before .count .ensures) (c .before .before .before .before .before .before .enum-told .given .1))
+    (passed-count (square (familyOf block)) (countAnswer block) _ (c .before .before .before .before .before .count2 .ensures) (c .before .before .before .enum-told2 .given .1))
     (passed-count (paired (familyOf block)) (countAnswer block) _ (c .before .before .count3 .ensures) (c .enum-told3 .given .1))
 
 pub count-spec : {M : Type 1} → statement M

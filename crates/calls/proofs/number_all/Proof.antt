@@ -15,23 +15,23 @@ found : tie.Need-number-all-requires × tie.Need-enum-known-r × tie.Need-same-l
 found = search needs
 
 -- a crate that hasn't the family leaves the numbers as they were
-same-arch : (c : tie.After-enum-told) → c .before .before .before .before .number-all .last .1 .1 .1 .1 .0 ≡ c .before .before .before .before .before .before .before .before .before .before .args .numbers .now
-same-arch c = passed-ranks (c .before .before .before .before .number-all .ensures) (c .enum-told .given .1) .1
+same-rows : (c : tie.After-enum-told) → c .before .before .before .before .number-all .last .1 .1 .1 .1 .0 ≡ c .before .before .before .before .before .before .before .before .before .before .args .numbers .now
+same-rows c = passed-ranks (c .before .before .before .before .number-all .ensures) (c .enum-told .given .1) .1
 
-same-rows : (c : tie.After-enum-told2) → c .before .before .before .before .number-all2 .last .1 .1 .1 .1 .0 ≡ c .before .before .before .before .before .before .before .before .before .before .before .before .before .before .before .before .args .numbers .now
-same-rows c = passed-ranks (c .before .before .before .before .number-all2 .ensures) (c .enum-told2 .given .1) .1 ∙ same-arch (c .before .before .before .before .before .before)
+same-arch : (c : tie.After-enum-told2) → c .before .before .before .before .number-all2 .last .1 .1 .1 .1 .0 ≡ c .before .before .before .before .before .before .before .before .before .before .before .before .before .before .before .before .args .numbers .now
+same-arch c = passed-ranks (c .before .before .before .before .number-all2 .ensures) (c .enum-told2 .given .1) .1 ∙ same-rows (c .before .before .before .before .before .before)
 
 same-grid : (c : tie.After-enum-told3) → c .before .before .before .before .number-all3 .last .1 .1 .1 .1 .0 ≡ c .before .before .before .before .before .before .before .before .before .before .before .before .before .before .before .before .before .before .before .before .before .before .args .numbers .now
-same-grid c = passed-ranks (c .before .before .before .before .number-all3 .ensures) (c .enum-told3 .given .1) .1 ∙ same-rows (c .before .before .before .before .before .before)
+same-grid c = passed-ranks (c .before .before .before .before .number-all3 .ensures) (c .enum-told3 .given .1) .1 ∙ same-arch (c .before .before .before .before .before .before)
 
 returns : tie.Need-returns
 returns c = taken-ranks (c .before .before .before .before .before .number-all .ensures) _ (c .before .r .given .1)
 
 returns-2 : tie.Need-returns-2
-returns-2 c = ranks-over _ _ _ (same-arch (c .before .before .before .before .before .before .before)) (taken-ranks (c .before .before .before .before .before .number-all2 .ensures) _ (c .before .r2 .given .1))
+returns-2 c = ranks-over _ _ _ (same-rows (c .before .before .before .before .before .before .before)) (taken-ranks (c .before .before .before .before .before .number-all2 .ensures) _ (c .before .r2 .given .1))
 
 returns-3 : tie.Need-returns-3
-returns-3 c = ranks-over _ _ _ (same-rows (c .before .before .before .before .before .before .before)) (taken-ranks (c .before .before .before .before .before .number-all3 .ensures) _ (c .before .r3 .given .1))
+returns-3 c = ranks-over _ _ _ (same-arch (c .before .before .before .before .before .before .before)) (taken-ranks (c .before .before .before .before .before .number-all3 .ensures) _ (c .before .r3 .given .1))
 
 returns-4 : tie.Need-returns-4
 returns-4 c =
