@@ -1,6 +1,6 @@
 -- The job maker's answer by the three tests. Assumes nothing.
 --
---   twenty-of, pairs-of                          a block that passes form has 20 bytes; one that passes size has at most eight pairs
+--   whole-of, pairs-of                          a block that passes form has all its bytes; one that passes size has at most eight pairs
 --   made-form, made-size, made-twin, made-job    the answer for each way through the tests
 use Prim.Native.Nat.{ℕ, _+_, _*_, _≤_}
 use mathlib.Core.Path.{_≡_, refl, sym, _∙_}
@@ -22,8 +22,8 @@ use Rattle.rules.proofs.Families.{sized-paired}
 use Rattle.job.specs.Made.{Pairs, makes, madeOf, refusedBy, heldBy}
 use Rattle.job.proofs.Blocks.{formed-is}
 
-pub twenty-of : (b : List ℕ) → formed b ≡ true → length b ≡ blockLength
-twenty-of b e = eqb→eq (length b) blockLength (and-left (eqb (length b) blockLength) _ (holds (sym (formed-is b) ∙ e)))
+pub whole-of : (b : List ℕ) → formed b ≡ true → length b ≡ blockLength
+whole-of b e = eqb→eq (length b) blockLength (and-left (eqb (length b) blockLength) _ (holds (sym (formed-is b) ∙ e)))
 
 -- where there are no pairs, k is an unused byte
 no-pairs : (b : List ℕ) → formed b ≡ true → paired (familyOf b) ≡ false → kOf b ≡ 0
@@ -33,7 +33,7 @@ no-pairs b e l =
     let a = and-right (eqb (length b) blockLength) _ (holds (sym (formed-is b) ∙ e)) in
     let c = and-right (leb (familyOf b) families) (z 0) (and-right (leb 1 (familyOf b)) _ a) in
     let d : T (zeros (drop 3 b)) = rw l at c in
-    let f : T (eqb (getD b 3 0) 0 && zeros (drop 4 b)) = rw (drop-cons b 3 0 (omega (arith, twenty-of b e))) at d in
+    let f : T (eqb (getD b 3 0) 0 && zeros (drop 4 b)) = rw (drop-cons b 3 0 (omega (arith, whole-of b e))) at d in
     eqb→eq (getD b 3 0) 0 (and-left (eqb (getD b 3 0) 0) (zeros (drop 4 b)) f)
 
 few-pairs : (b : List ℕ) → sized b ≡ true → paired (familyOf b) ≡ true → kOf b ≤ 8
@@ -46,7 +46,7 @@ few-pairs b e l =
     leb→le (kOf b) 8 (and-left (leb (kOf b) 8) (small (used b)) (and-right (leb 1 (kOf b)) k a))
 
 pub pairs-of : (b : List ℕ) (k : ℕ) → k ≡ getD b 3 0 → formed b ≡ true → sized b ≡ true → Pairs b k
-pairs-of b k q e f = record { twenty = twenty-of b e; many = sym q; few = go (paired (familyOf b)) refl }
+pairs-of b k q e f = record { twenty = whole-of b e; many = sym q; few = go (paired (familyOf b)) refl }
   where
     go : (t : Bool) → paired (familyOf b) ≡ t → k ≤ 8
     go true l = omega (arith, few-pairs b f l)

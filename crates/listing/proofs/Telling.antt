@@ -1,7 +1,7 @@
 -- From the count of a block to its job, its edges and its listing. Assumes nothing.
 --
 --   count-of, counted       an accepted count, from its reply; the job that has it
---   block-long              a block with a count has 20 bytes
+--   block-long              a block with a count has all its bytes
 --   Listed, listed          the edges of the numbers from 0 up, lined up to be printed
 --   listing-is, listing-refused    the listing of an accepted and of a refused block
 use mathlib.Core.Path.{_≡_, refl, sym, ap, ap₂, _∙_, subst}
@@ -19,7 +19,7 @@ use Rattle.rules.specs.Numbers.{edgeOf}
 use Rattle.rules.specs.Refusals.{Answer, Refusal, check, refusalNumber}
 use Rattle.rules.specs.Refusals.Refusal.{form, beyond}
 use Rattle.rules.specs.Refusals.Answer.{accepted, refused}
-use Rattle.rules.specs.Blocks.{formed, jobAnswer}
+use Rattle.rules.specs.Blocks.{blockLength, formed, jobAnswer}
 use Rattle.rules.specs.Answers.{knownJob, countAnswer}
 use Rattle.rules.specs.Packs.{joined}
 use Rattle.rules.specs.Questions.{edgesAnswer}
@@ -30,7 +30,7 @@ use Rattle.job.specs.declared.Built.{Built}
 use Rattle.job.specs.declared.Built.the-variants.{Refused}
 use Rattle.job.specs.Replies.{reply, buildSays}
 use Rattle.job.specs.Replies.Reply.{value, refusal}
-use Rattle.job.proofs.Makes.{twenty-of}
+use Rattle.job.proofs.Makes.{whole-of}
 use Rattle.lines.specs.declared.Wrote.{Wrote}
 use Rattle.lines.specs.Lines.{lined, lines, LinedAs, builtOf, WroteAs}
 use Rattle.rules.proofs.Belows.{below-all}
@@ -61,11 +61,11 @@ module _ (b : List ℕ) where
       go (accepted J) q = let w : countAnswer b ≡ accepted (countOf J) = count-known b J q in record { J = J; job = q; count = cc }
       go (refused r) q = let w : countAnswer b ≡ refused r = count-told b r q in let z : _≡_ {A = ℕ} 0 1 = cc in absurd (omega arith)
 
-  pub block-long : (c : ℕ) → countAnswer b ≡ accepted c → length b ≡ 20
+  pub block-long : (c : ℕ) → countAnswer b ≡ accepted c → length b ≡ blockLength
   unfolding jobAnswer
   block-long c e =
       let k = counted c e in
-      twenty-of b (is-true (formed b) (passed (formed b) form _ (k .J) (known-job b (k .J) (k .job) .job) .0))
+      whole-of b (is-true (formed b) (passed (formed b) form _ (k .J) (known-job b (k .J) (k .job) .job) .0))
 
   listing-of : (J : Job) → knownJob b ≡ accepted J → listingText b ≡ headerText b (countOf J) ++ linesText (edgeOf J) (min (countOf J) 1000)
   unfolding listingText answerText

@@ -6,7 +6,7 @@ use borrow.Author.Tests.{not-true, not-false}
 use Rattle.rules.specs.Blocks.{formed, sized}
 use Rattle.job.specs.declared.Made.{Made}
 use Rattle.job.specs.declared.Job.{Job}
-use Rattle.job.proofs.Makes.{twenty-of, pairs-of, made-form, made-size, made-twin, made-job}
+use Rattle.job.proofs.Makes.{whole-of, pairs-of, made-form, made-size, made-twin, made-job}
 use borrow.Author.Needs.{needs}
 use Rattle.job.proofs.Job.of.Statement.{statement}
 use Rattle.job.proofs.Job.of.Tie as tie
@@ -26,13 +26,13 @@ has-size : (c : tie.Else2) → sized (c .before .before .before .before .before 
 has-size c = sym (c .before .is-sized .ensures) ∙ not-false _ (c .if2 .left)
 
 is-sized-requires : tie.Need-is-sized-requires
-is-sized-requires c κs = twenty-of _ (has-form c)
+is-sized-requires c κs = whole-of _ (has-form c)
 
 returns-2 : tie.Need-returns-2
 returns-2 c = c .refused2 .ensures ∙ made-size _ (has-form (c .before .before .before)) (sym (c .before .before .is-sized .ensures) ∙ not-true _ (c .before .if2 .taken))
 
 shared-slice-read-wide : tie.Need-shared-slice-read-wide
-shared-slice-read-wide c = let h = twenty-of _ (has-form (c .before .before .before)) in omega arith
+shared-slice-read-wide c = let h = whole-of _ (has-form (c .before .before .before)) in omega arith
 
 has-twins-requires : tie.Need-has-twins-requires
 has-twins-requires c κs = pairs-of _ _ (c .wide .ensures) (has-form (c .before .before .before .before)) (has-size (c .before .before))
@@ -43,7 +43,7 @@ returns-3 c =
     c .refused3 .ensures ∙ made-twin _ (has-form (at .before .before)) (has-size at) (sym (c .before .before .has-twins .ensures) ∙ c .before .if3 .taken)
 
 held-requires : tie.Need-held-requires
-held-requires c κs = twenty-of _ (has-form (c .before .before .before .before .before .before))
+held-requires c κs = whole-of _ (has-form (c .before .before .before .before .before .before))
 
 returns-4 : tie.Need-returns-4
 returns-4 c =
