@@ -69,9 +69,12 @@ module _ (p : List ℕ) where
   unfolding refusalNumber
   read-edges e k r f = f (k .job) (k .made) ∙ go (allValid (k .job) (edgesIn p)) refl
     where
+      asked-of : (t : Bool) → allValid (k .job) (edgesIn p) ≡ t → readAnswer p ≡ check t not-an-edge (accepted packIn)
+      asked-of t q = read-known e (accepted (k .job)) (k .answer) ∙ ap (λ (t : Bool). check t not-an-edge (accepted packIn)) q
+
       go : (t : Bool) → allValid (k .job) (edgesIn p) ≡ t → pick t 0 5 ≡ refusalIn (readAnswer p)
-      go true q = sym (ap refusalIn (read-known e (accepted (k .job)) (k .answer) ∙ ap (λ (t : Bool). check t not-an-edge (accepted packIn)) q))
-      go false q = sym (ap refusalIn (read-known e (accepted (k .job)) (k .answer) ∙ ap (λ (t : Bool). check t not-an-edge (accepted packIn)) q))
+      go true q = sym (ap refusalIn (asked-of true q))
+      go false q = sym (ap refusalIn (asked-of false q))
 
   pub record Read : Type 0 where
     pub layout : Laid p

@@ -1,15 +1,18 @@
 -- `twice::first_repeat` meets its contract: no edge passed equals an earlier one, nor the later edge any earlier one passed. Assumes nothing.
-use Prim.Native.Nat.{_≤_, _<_, _-_}
+use Prim.Native.Nat.{ℕ, _≤_, _<_, _-_}
 use mathlib.Core.Path.{_≡_, refl, sym, ap, _∙_}
 use mathlib.Core.Logic.{⊎-elim}
+use mathlib.Core.List.{List}
+use mathlib.Core.Option.{Option}
 use native.Mathlib.Omega.{arith}
 use borrow.Author.Needs.{needs}
 use lib.ListN.{length}
 use Rattle.howmany.specs.Least.{least}
-use Rattle.rules.specs.Packs.{edgesFrom}
-use Rattle.rules.specs.Questions.{equals, twiceIn}
+use Rattle.rules.specs.Packs.{countIn, edgesFrom}
+use Rattle.rules.specs.Questions.{equals, Twice, twiceIn}
 use Rattle.job.specs.Replies.Reply.{value}
 use Rattle.rules.proofs.PackLaws.{edges-length}
+use Rattle.pack.specs.Layout.{EdgeAt}
 use Rattle.pack.proofs.Listed.{equals-is}
 use Rattle.pack.proofs.Searches.{least-more, repeats, alone, twice-at, twice-none}
 use Rattle.pack.proofs.twice.first_repeat.Statement.{statement}
@@ -38,8 +41,12 @@ loop-holds : tie.Need-loop-holds Inv-loop μ-loop Inv-search μ-search
 unfolding least
 loop-holds c = (omega arith, refl)
 
+-- an edge of the pack
+edge : (c : tie.After-edge-count Inv-loop μ-loop Inv-search μ-search) (i : ℕ) → i < c .edge-count .result → EdgeAt (c .before .before .args .pack .now) i
+edge c i l = c .before .before .pre .edge i (omega (arith, c .edge-count .ensures .0))
+
 are-equal-requires : tie.Need-are-equal-requires Inv-loop μ-loop Inv-search μ-search
-are-equal-requires c κs = (c .before .before .before .before .before .before .pre .edge (c .before .before .before .search .later) (omega (arith, c .before .before .before .before .edge-count .ensures .0, c .before .before .search-test .taken)), c .before .before .before .before .before .before .pre .edge (c .before .loop .earlier) (omega (arith, c .before .before .before .before .edge-count .ensures .0, c .before .before .search-test .taken)))
+are-equal-requires c κs = (edge (c .before .before .before .before) _ (c .before .before .search-test .taken), edge (c .before .before .before .before) _ (omega arith))
 
 -- what `search` finds
 found : tie.Need-add-earlier Inv-loop μ-loop Inv-search μ-search × tie.Need-loop-less Inv-loop μ-loop Inv-search μ-search ×
@@ -52,18 +59,34 @@ loop-again c = (search needs, least-more _ _ (c .before .before .before .loop .i
 search-again : tie.Need-search-again Inv-loop μ-loop Inv-search μ-search
 search-again c = (search needs, least-more _ _ (c .before .before .before .search .inv .1) (alone _ _ _ (omega arith) (c .before .loop .inv .1)))
 
+-- the edges of the pack, and what is told of them
+module _ (c : tie.After-edge-count Inv-loop μ-loop Inv-search μ-search) where
+  abbrev pack : List ℕ
+  pack = c .before .before .args .pack .now
+
+  abbrev edges : List (List ℕ)
+  edges = edgesFrom pack 0 (c .edge-count .result)
+
+  long : length edges ≡ c .edge-count .result
+  long = edges-length pack 0 (c .edge-count .result)
+
+  told : {x : Option Twice} → twiceIn edges ≡ x → value x ≡ value (twiceIn (edgesFrom pack 0 (countIn pack)))
+  told e = ap value (sym e) ∙ ap (λ (n : ℕ). value (twiceIn (edgesFrom pack 0 n))) (c .edge-count .ensures .0)
+
 returns : tie.Need-returns Inv-loop μ-loop Inv-search μ-search
 returns c =
     ⊎-elim
     (λ w. absurd (omega (arith, w .0 .left)))
     (λ w.
     let l : w .1 .earlier < c .before .before .before .edge-count .result = omega (arith, w .2 .taken, c .if2 .taken) in
-    let h : c .before .before .search .later < length (edgesFrom (c .before .before .before .before .before .args .pack .now) 0 (c .before .before .before .edge-count .result)) = omega (arith, edges-length (c .before .before .before .before .before .args .pack .now) 0 (c .before .before .before .edge-count .result), c .if2 .taken) in
-    rw (w .5) (ap value (sym (twice-at _ _ _ (c .before .before .search .inv .1) (w .1 .inv .1) (equals-is _ _ _ _ (c .if2 .taken) l ∙ sym (w .3 .ensures) ∙ w .4 .taken) (w .2 .taken) h)) ∙ ap (λ n. value (twiceIn (edgesFrom (c .before .before .before .before .before .args .pack .now) 0 n))) (c .before .before .before .edge-count .ensures .0)))
+    rw (w .5)
+    (told (c .before .before .before) (twice-at _ _ _ (c .before .before .search .inv .1) (w .1 .inv .1) (equals-is _ _ _ _ (c .if2 .taken) l ∙ sym (w .3 .ensures) ∙ w .4 .taken) (w .2 .taken)
+    (omega (arith, long (c .before .before .before), c .if2 .taken)))))
     (c .before .search-test .came)
 
 returns-2 : tie.Need-returns-2 Inv-loop μ-loop Inv-search μ-search
-returns-2 c = ap value (sym (twice-none _ _ (omega (arith, edges-length (c .before .before .before .before .before .args .pack .now) 0 (c .before .before .before .edge-count .result), c .if2 .left, c .before .before .search .inv .0)) (c .before .before .search .inv .1))) ∙ ap (λ n. value (twiceIn (edgesFrom (c .before .before .before .before .before .args .pack .now) 0 n))) (c .before .before .before .edge-count .ensures .0)
+returns-2 c =
+    told (c .before .before .before) (twice-none _ _ (omega (arith, long (c .before .before .before), c .if2 .left, c .before .before .search .inv .0)) (c .before .before .search .inv .1))
 
 pub first-repeat-spec : {M : Type 1} → statement M
 first-repeat-spec =
