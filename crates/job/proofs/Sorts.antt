@@ -17,7 +17,7 @@ use Rattle.rules.specs.Jobs.{Pair, isDirected}
 use Rattle.rules.specs.Jobs.Job.{north-east, dyck, delannoy, schroder, motzkin, directed}
 use Rattle.rules.specs.Blocks.{plain, square, paired}
 use Rattle.job.specs.declared.Job.{Job}
-use Rattle.job.specs.Stands.{Level, Directed, Stands}
+use Rattle.job.specs.Stands.{Level, Directed, startHeld, Stands}
 use Rattle.job.specs.Stands.Stands.{as-north-east, as-dyck, as-delannoy, as-schroder, as-motzkin, as-open, as-fenced}
 
 pub data AsPlain (j : Job) : rules.Job → Type 0 where
@@ -27,7 +27,7 @@ pub data AsSquare (j : Job) : rules.Job → Type 0 where
   as-square : j .n ≤ 64 → AsSquare j (pick (eqb (j .family) 2) (dyck (j .n)) (pick (eqb (j .family) 4) (schroder (j .n)) (motzkin (j .n))))
 
 pub data AsDirected (j : Job) : rules.Job → Type 0 where
-  as-directed : (fenced : Bool) {m : ℤ} {pairs : List Pair} → j .family ≡ pick fenced 7 6 → Directed j m pairs → AsDirected j (directed fenced (j .n) m 0 pairs)
+  as-directed : (fenced : Bool) {m : ℤ} {pairs : List Pair} → j .family ≡ pick fenced 7 6 → Directed j m pairs → AsDirected j (directed fenced (j .n) m (startHeld j) pairs)
 
 -- a family of another kind
 other : (kind : ℕ → Bool) {f g : ℕ} → f ≡ g → kind g ≡ false → kind f ≡ true → ⊥

@@ -23,9 +23,9 @@ use Rattle.howmany.specs.Choose.{pick, onlyIf}
 use Rattle.howmany.specs.Least.{least}
 use Rattle.howmany.proofs.Choices.{and-left, and-right, is-true, is-false, holds}
 use Rattle.howmany.proofs.Leasts.{least-on, least-at}
-use Rattle.rules.specs.Points.{Point, origin, moved, leℤ}
+use Rattle.rules.specs.Points.{Point, moved, leℤ}
 use Rattle.rules.specs.Jobs as rules
-use Rattle.rules.specs.Jobs.{Pair, one, stepsOf, stays}
+use Rattle.rules.specs.Jobs.{Pair, one, stepsOf, startOf, stays}
 use Rattle.rules.specs.Jobs.Job.{directed}
 use Rattle.rules.specs.Valid.{place, at, walks, isEdge, Valid}
 use Rattle.rules.specs.Places.{placeOf}
@@ -42,7 +42,7 @@ use Rattle.rules.proofs.Slopes.{numbered-length, digit-at}
 use Rattle.rules.proofs.Places.{place-none, place-wrong}
 use Rattle.rules.proofs.Answering.{known-told, count-known, count-told}
 use Rattle.job.specs.declared.Job.{Job}
-use Rattle.job.specs.Stands.{Directed, Stands}
+use Rattle.job.specs.Stands.{Directed, startHeld, Stands}
 use Rattle.job.proofs.Sorts.{AsDirected, directed-of, directs}
 use Rattle.job.proofs.Sorts.AsDirected.{as-directed}
 use Rattle.job.specs.Replies.{reply}
@@ -88,17 +88,17 @@ lettered J (b ∷ e) p t (suc i) l =
 
 module _ (j : Job) (fenced : Bool) (m : ℤ) (pairs : List Pair) (d : Directed j m pairs) (e : List ℕ) where
   abbrev J : rules.Job
-  J = directed fenced (j .n) m 0 pairs
+  J = directed fenced (j .n) m (startHeld j) pairs
 
-  module _ (t : T (walks J origin e)) (i : ℕ) (l : i < length e) where
+  module _ (t : T (walks J (startOf J) e)) (i : ℕ) (l : i < length e) where
     abbrev here : ℕ
     here = place (getD e i 0) (stepsOf J)
 
     known : here < length pairs
-    known = omega (arith, lettered J e origin t i l, numbered-length one pairs)
+    known = omega (arith, lettered J e (startOf J) t i l, numbered-length one pairs)
 
     digit-is : getD e i 0 ≡ one + here
-    digit-is = sym (place-letter (getD e i 0) (stepsOf J) (lettered J e origin t i l)) ∙ digit-at one pairs here known .letter
+    digit-is = sym (place-letter (getD e i 0) (stepsOf J) (lettered J e (startOf J) t i l)) ∙ digit-at one pairs here known .letter
 
     place-is : here ≡ getD e i 0 - one
     place-is = omega (arith, digit-is)
@@ -108,7 +108,7 @@ module _ (j : Job) (fenced : Bool) (m : ℤ) (pairs : List Pair) (d : Directed j
         subst (λ (q : ℕ). Is (slope J e i) (getD (j .b) q 0) 128) place-is
         (subst (λ (z : ℤ). Is z (getD (j .b) here 0) 128) (sym (digit-at one pairs here known .up)) (d .b-is here (omega (arith, known, d .many))))
 
-  directed-slopes : T (walks J origin e) → Slopes (j .b) e J
+  directed-slopes : T (walks J (startOf J) e) → Slopes (j .b) e J
   directed-slopes t = record {
     least = λ i l. omega (arith, digit-is t i l);
     most = λ i l. omega (arith, place-is t i l, known t i l, d .many, d .few);

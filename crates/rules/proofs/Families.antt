@@ -17,7 +17,7 @@ use Rattle.howmany.proofs.Choices.{and-left, and-right, is-false}
 use Rattle.rules.specs.Points.{height}
 use Rattle.rules.specs.Jobs.{Job}
 use Rattle.rules.specs.Jobs.Job.{north-east, dyck, delannoy, schroder, motzkin, directed}
-use Rattle.rules.specs.Blocks.{blockLength, families, familyOf, nOf, mOf, used, plain, square, paired, zeros, unused, formed, sizedLettered, sizedDirected, sized, jobIn, jobAnswer}
+use Rattle.rules.specs.Blocks.{blockLength, families, familyOf, nOf, mOf, sOf, used, plain, square, paired, zeros, unused, formed, sizedLettered, sizedDirected, sized, jobIn, jobAnswer}
 use Rattle.rules.specs.Refusals.Refusal.{form}
 use Rattle.rules.specs.Refusals.Answer.{refused}
 
@@ -27,8 +27,8 @@ pub data FamilyIs (b : List ℕ) : Job → Type 0 where
   is-delannoy : familyOf b ≡ 3 → FamilyIs b (delannoy (nOf b) (height (mOf b)))
   is-schroder : familyOf b ≡ 4 → FamilyIs b (schroder (nOf b))
   is-motzkin : familyOf b ≡ 5 → FamilyIs b (motzkin (nOf b))
-  is-open : familyOf b ≡ 6 → FamilyIs b (directed false (nOf b) (mOf b) 0 (used b))
-  is-fenced : familyOf b ≡ 7 → FamilyIs b (directed true (nOf b) (mOf b) 0 (used b))
+  is-open : familyOf b ≡ 6 → FamilyIs b (directed false (nOf b) (mOf b) (sOf b) (used b))
+  is-fenced : familyOf b ≡ 7 → FamilyIs b (directed true (nOf b) (mOf b) (sOf b) (used b))
 
 module _ (b : List ℕ) (f : T (formed b)) where
   family-range : (1 ≤ familyOf b) × (familyOf b ≤ families)
@@ -41,7 +41,7 @@ module _ (b : List ℕ) (f : T (formed b)) where
       )
 
   last : (eqb (familyOf b) 1 ≡ false) → (eqb (familyOf b) 2 ≡ false) → (eqb (familyOf b) 3 ≡ false) → (eqb (familyOf b) 4 ≡ false) → (eqb (familyOf b) 5 ≡ false)
-      → (t : Bool) → eqb (familyOf b) 7 ≡ t → FamilyIs b (directed t (nOf b) (mOf b) 0 (used b))
+      → (t : Bool) → eqb (familyOf b) 7 ≡ t → FamilyIs b (directed t (nOf b) (mOf b) (sOf b) (used b))
   last p q r s t true e = is-fenced (eqb-true (familyOf b) 7 e)
   last p q r s t false e =
       let w = familyOf b in
@@ -56,7 +56,7 @@ module _ (b : List ℕ) (f : T (formed b)) where
 
       go : (p : Bool) → eqb w 1 ≡ p → (q : Bool) → eqb w 2 ≡ q → (r : Bool) → eqb w 3 ≡ r → (s : Bool) → eqb w 4 ≡ s → (t : Bool) → eqb w 5 ≡ t
           → FamilyIs b (pick p (north-east (nOf b) (height (mOf b))) (pick q (dyck (nOf b)) (pick r (delannoy (nOf b) (height (mOf b))) (pick s (schroder (nOf b))
-          (pick t (motzkin (nOf b)) (directed (eqb w 7) (nOf b) (mOf b) 0 (used b)))))))
+          (pick t (motzkin (nOf b)) (directed (eqb w 7) (nOf b) (mOf b) (sOf b) (used b)))))))
       go true p q x r y s z t v = is-north-east (eqb-true w 1 p)
       go false p true x r y s z t v = is-dyck (eqb-true w 2 x)
       go false p false x true y s z t v = is-delannoy (eqb-true w 3 y)

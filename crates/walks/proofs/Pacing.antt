@@ -26,7 +26,7 @@ use Rattle.rules.proofs.Shear.{Is}
 use Rattle.walks.proofs.Spots.{and-true}
 use Rattle.rules.proofs.Slopes.{numbered-length, digit-at, digit-place}
 use Rattle.job.specs.declared.Job.{Job}
-use Rattle.job.specs.Stands.{Directed, Stands}
+use Rattle.job.specs.Stands.{Directed, Stands, startHeld}
 use Rattle.job.specs.Stands.Stands.{as-north-east, as-dyck, as-delannoy, as-schroder, as-motzkin, as-open, as-fenced}
 use Rattle.letters.specs.Letters as letters
 use Rattle.walks.specs.declared.paces.Paces.{Paces}
@@ -160,8 +160,8 @@ digit-strides j m ps d = record {
 abbrev ownPaces : Job → Bool → Paces
 ownPaces j fenced = record { lettered = false; square = false; fenced = fenced; n = j .n; m = j .m; k = j .k; a = j .a; b = j .b }
 
-directed-paced : (j : Job) (fenced : Bool) (m : ℤ) (ps : List Pair) → Directed j m ps → ((q : Point) → stays (directed fenced (j .n) m 0 ps) q ≡ keptBy false fenced q)
-    → PacesOf (ownPaces j fenced) (directed fenced (j .n) m 0 ps)
+directed-paced : (j : Job) (fenced : Bool) (m : ℤ) (ps : List Pair) → Directed j m ps → ((q : Point) → stays (directed fenced (j .n) m (startHeld j) ps) q ≡ keptBy false fenced q)
+    → PacesOf (ownPaces j fenced) (directed fenced (j .n) m (startHeld j) ps)
 directed-paced j fenced m ps d g = record {
   n-is = refl;
   n-most = omega (arith, d .n-most);
