@@ -7,11 +7,11 @@
 --   dyck-most, schroder-most, motzkin-most  the three limits
 --   Held b room j                the family is 2, 4 or 5, there is room, and j is the block's job
 --   held-fits, held-over         its count fits, or refusal 4
-use mathlib.Core.Path.{_≡_, refl, sym, ap, _∙_, subst}
-use mathlib.Core.Bool.{Bool, true, false}
+use mathlib.Core.Path.{_≡_, refl, ap, _∙_}
+use mathlib.Core.Bool.{Bool, true}
 use mathlib.Core.List.{List}
 use Prim.Native.Nat.{ℕ, _^_, _≤_, _<_}
-use lib.Dec.{T, eqb}
+use lib.Dec.{eqb}
 use borrow.Author.Tests.{ne-eqb}
 use Rattle.howmany.specs.Choose.{pick}
 use Rattle.rules.specs.Jobs as rules

@@ -6,7 +6,7 @@
 --   OneSays, one-says    what is said of the one edge that was numbered; one-told, one-untold, one-room: by each case
 use mathlib.Core.Path.{_≡_, refl, sym, ap, _∙_}
 use mathlib.Core.Bool.{Bool, true, false}
-use mathlib.Core.Option.{Option, some, none, Option·none-ne-some, Option·some-injective}
+use mathlib.Core.Option.{Option, some, Option·none-ne-some, Option·some-injective}
 use mathlib.Core.List.{List, [], _∷_, _++_, append-nil}
 use Prim.Native.Nat.{ℕ, _-_, _≤_}
 use native.Mathlib.Omega.{arith}
@@ -25,7 +25,7 @@ use Rattle.rules.specs.Answers.{knownJob, numberAnswer, edgeAnswer, written, bu
 use Rattle.rules.specs.Packs.{joined}
 use Rattle.rules.specs.Questions.{edgesAnswer}
 use Rattle.rules.proofs.Answering.{number-known, number-told, edges-of-one, build-of}
-use Rattle.job.specs.Replies.{Reply, reply, numberSays, BuiltAs}
+use Rattle.job.specs.Replies.{reply, numberSays, BuiltAs}
 use Rattle.job.specs.Replies.Reply.{value, refusal}
 use Rattle.job.specs.declared.Numbered.{Numbered}
 use Rattle.job.specs.declared.Built.{Built}

@@ -1,7 +1,6 @@
 // From a job of family 6 or 7 to the grid's form of it: the shear (x, y + 3x), and then the heights that put the end lowest, so that the
 // table is small.
 ghost use mathlib.Core.Path.{_≡_};
-ghost use Prim.Native.Nat.{_≤_, _<_, _+_, _*_};
 ghost use lib.Dec.{eqb};
 ghost use mathlib.Core.Bool.{true};
 ghost use Rattle.howmany.specs.Choose.{pick};

@@ -9,7 +9,7 @@
 use mathlib.Core.Path.{_≡_, sym, ap, _∙_, subst}
 use mathlib.Core.Bool.{Bool, true, false}
 use mathlib.Core.List.{List}
-use Prim.Native.Nat.{ℕ, _≤_, _<_}
+use Prim.Native.Nat.{ℕ, _≤_}
 use lib.Dec.{T, leb}
 use lib.ListN.{length}
 use borrow.Author.Tests.{leb-true, leb-false}
@@ -18,7 +18,7 @@ use Rattle.rules.specs.Blocks.{familyOf}
 use Rattle.rules.specs.Answers.{countAnswer}
 use Rattle.rules.specs.Questions.{edgesAnswer}
 use Rattle.rules.proofs.Answering.{known-told, count-told, count-fitted, edges-told, edges-fitted}
-use Rattle.job.specs.Replies.{reply, countSays}
+use Rattle.job.specs.Replies.{reply}
 use Rattle.job.specs.Replies.Reply.{refusal}
 use Rattle.job.specs.declared.Counted.{Counted}
 use Rattle.job.specs.declared.Counted.the-variants.{Refused as CountRefused}

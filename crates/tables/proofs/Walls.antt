@@ -25,7 +25,7 @@ use lib.Dec.{T, leb, leb→le}
 use lib.ListN.{length, getD, set}
 use lib.Seq.{getD-set-same, getD-set-other}
 use borrow.Author.Count.{below-more}
-use borrow.Author.Tests.{lt-ltb, le-ltb, le-leb, lt-leb}
+use borrow.Author.Tests.{le-leb, lt-leb}
 use Rattle.howmany.proofs.Choices.{holds, is-true, is-false}
 use Rattle.tables.specs.declared.Wall.{Wall}
 use Rattle.tables.specs.Form.{wall, fence, unwalled, Slight}

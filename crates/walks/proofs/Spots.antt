@@ -9,7 +9,6 @@
 --   spot-end         whether a point is the end
 use mathlib.Core.Path.{_≡_, refl, sym, ap, ap₂, _∙_}
 use mathlib.Core.Bool.{Bool, true, false, not, _&&_, _||_, and-false}
-use mathlib.Core.List.{List}
 use Prim.Native.Nat.{ℕ, _+_, _-_, _*_, _≤_, _<_}
 use native.Mathlib.Decide.{decLe, ℕ-discrete}
 use native.Mathlib.Omega.{arith}
@@ -19,14 +18,14 @@ use lib.ListN.{length, getD}
 use borrow.Author.Tests.{lt-ltb, le-ltb, le-leb, lt-leb, eq-eqb, ne-eqb}
 use Rattle.howmany.specs.Choose.{pick}
 use Rattle.rules.specs.Points.{Point, Step, origin, same, moved, leℤ, eqℤ}
-use Rattle.rules.specs.Jobs.{Job, stepsOf, startOf, endOf, stays, isDirected}
+use Rattle.rules.specs.Jobs.{Job, stepsOf, endOf, stays}
 use Rattle.rules.specs.Valid.{place, at}
-use Rattle.rules.specs.Places.{stepOf, isStep, low, inside, keeps}
+use Rattle.rules.specs.Places.{stepOf, low, inside, keeps}
 use Rattle.rules.proofs.Shear.{Is}
 use Rattle.rules.proofs.Letters.{point-eq}
 use Rattle.rules.proofs.Signed.{is-sub, is-shift, is-plus, is-one, is-fence}
 use Rattle.walks.specs.declared.paces.Paces.{Paces}
-use Rattle.walks.specs.Paces.{letterOf, keptBy, within, PacesOf}
+use Rattle.walks.specs.Paces.{letterOf, within, PacesOf}
 
 -- ---- tests of a difference
 

@@ -7,8 +7,8 @@
 --   not-there, not-level, arrived the string is at its end, and there or not
 use mathlib.Core.Path.{_≡_, refl, sym, ap, ap₂, _∙_}
 use mathlib.Core.Bool.{Bool, true, false, not, _&&_, and-false}
-use mathlib.Core.Option.{some, none}
-use mathlib.Core.List.{List, [], _∷_}
+use mathlib.Core.Option.{some}
+use mathlib.Core.List.{List, []}
 use Prim.Native.Nat.{ℕ, suc, _+_, _-_, _*_, _≤_, _<_}
 use native.Mathlib.Numerals.{add-one}
 use native.Mathlib.Omega.{arith}
@@ -22,7 +22,7 @@ use Rattle.rules.specs.Points.{Point, same, moved}
 use Rattle.rules.specs.Jobs.{Job, startOf, endOf}
 use Rattle.rules.specs.Valid.{isEdge}
 use Rattle.rules.specs.Places.{stepOf, keeps, reached, stopFrom, stopOf, placeOf}
-use Rattle.rules.proofs.Places.{stop-on, stop-here, stop-end, arrives, arrives-is, place-is}
+use Rattle.rules.proofs.Places.{stop-on, stop-here, stop-end, arrives-is, place-is}
 use Rattle.walks.specs.declared.paces.Paces.{Paces}
 use Rattle.walks.specs.declared.walking.Stop.the-variants.{Never, At}
 use Rattle.walks.specs.Paces.{letterOf, within, PacesOf, Paced, StopsAs}

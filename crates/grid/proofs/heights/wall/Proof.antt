@@ -1,9 +1,5 @@
 -- `grid::heights::wall` meets its contract: no wall, a roof, or a fence that is lower. Assumes nothing.
-use mathlib.Core.Path.{subst, sym}
-use native.Mathlib.Omega.{arith}
 use Rattle.howmany.proofs.Choices.{holds}
-use Rattle.tables.specs.Form.{fence}
-use Rattle.tables.specs.Heights.{Turned}
 use Rattle.tables.proofs.Walls.{wall-free, wall-slid, wall-mirrored, fenced-slight, slid-slight, mirrored-slight}
 use Rattle.grid.proofs.heights.wall.Statement.{statement}
 use Rattle.grid.proofs.heights.wall.Tie as tie
