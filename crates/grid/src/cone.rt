@@ -2,7 +2,6 @@
 ghost use mathlib.Core.Path.{_≡_};
 ghost use Prim.Native.Nat.{_+_, _*_, _≤_, _<_};
 ghost use lib.ListN.{length};
-ghost use Rattle.tables.specs.Form.{wall};
 ghost use Rattle.tables.specs.Table.{Bounded, Fence, From, Roof, To, Spans};
 use tables::Wall;
 
@@ -28,17 +27,6 @@ fn roof_at(f: Wall, x: usize, y: usize) -> usize
     }
     let roof = f.slope * x + f.start;
     if roof < y { roof } else { y }
-}
-
-// Whether the wall f lets a walk be at column x, height y.
-pub(crate) fn stays(f: Wall, x: usize, y: usize) -> bool
-    requires { ⌜ Bounded f × (x ≤ 97) ⌝ }
-    ensures { λ r. ⌜ r ≡ wall f x y ⌝ }
-{
-    if y < fence_at(f, x) {
-        return false;
-    }
-    y <= roof_at(f, x, y)
 }
 
 // A sixth of hi * x, rounded down. Where hi is a multiple of six, as it is if the steepest step goes one column, a loop over x adds and never

@@ -10,7 +10,6 @@ ghost use Rattle.tables.specs.Edges.{broughtAt, Summed, Sought};
 ghost use Rattle.tables.specs.Plans.{walksFor, RankFor, edgeFor};
 ghost use Rattle.tables.specs.Filling.{Readable};
 use crate::column::source;
-use crate::cone::stays;
 use job::Step;
 use letters::place_of;
 use lines::Rank;
@@ -52,7 +51,6 @@ pub(crate) fn read(
     requires { ⌜ Readable p (now sa) (now sc) (now off) (now val) ⌝ }
     ensures { λ r. ⌜ RankFor false p (now (sa .entry)) (now (sc .entry)) (now (e .entry)) r ⌝ }
 {
-    let wall = p.wall;
     let mut acc: u64 = 0;
     let mut x = p.ex;
     let mut y = p.ey;
@@ -61,8 +59,8 @@ pub(crate) fn read(
     while 0 < i {
         i -= 1;
         let l = place_of(false, e[i]);
-        if !stays(wall, x, y) {
-            return Rank::NoEdge;
+        if val[at] == 0 {
+            return Rank::NoEdge; // no walk leads there
         }
         if p.k <= l {
             return Rank::NoEdge;

@@ -2,12 +2,12 @@
 --
 --   east-up                         how far up E goes, from how far N does
 --   back-small, end-at, cells-at    what `north_of`, `end_of` and `cells_of` sum fits
---   cell-in, cell-is, all-le, brings    what a cell holds, and what stands as far back as a step leads
+--   all-le, brings    what a cell holds, and what stands as far back as a step leads
 --   Near, near                      what N and E bring to a cell can be read, and fits
 --   PlainAlong                      the loop along a row, by the plan of families 1 and 3
 --   Begins, row-begins, row-start   its first cell
 --   Filling, filling-in, filling-far, filling-next, row-over, row-next    a cell more
---   Here, Led, barren, led-start, led-out, led-end    the loop of `read`
+--   Here, Led, led-start, led-out, led-end    the loop of `read`
 --   Reading, reading-in, reading-back, reading-near, north-led, east-led, across-led, east-fits, across-fits    a step read
 --   no-step, across-left            where `read` finds no step of the job
 --   Given, Spelt, spelt-start, spelt-end    the loop of `spell`
@@ -24,31 +24,26 @@ use borrow.Author.Tests.{eq-eqb}
 use Rattle.howmany.specs.Choose.{pick, bit}
 use Rattle.howmany.specs.Sum.{sum}
 use Rattle.howmany.proofs.Sums.{sum-none, sum-mono}
-use Rattle.howmany.proofs.Choices.{is-true, is-false, holds, and-left, and-right}
-use Rattle.backward.specs.Grid.{grid, paths}
-use Rattle.backward.proofs.Backward.{rank-below}
-use Rattle.backward.proofs.Grids.{grid-lawful}
+use Rattle.howmany.proofs.Choices.{is-true, holds, and-left, and-right}
 use Rattle.lines.specs.declared.Rank.the-variants.{At, NoEdge}
 use Rattle.letters.specs.Letters.{placeOf, glyphOf}
 use Rattle.letters.proofs.Glyphs.{place-n, place-e, place-d, place-no, glyph-n, glyph-e, glyph-d}
 use Rattle.rows.specs.declared.plain.Plain.{Plain}
-use Rattle.tables.specs.Form.{wall, stepsIn, walksTo, via}
+use Rattle.tables.specs.Form.{wall, walksTo, via}
 use Rattle.tables.specs.Cells.{capOf, place}
-use Rattle.tables.specs.Edges.{walkEnd, Sought}
+use Rattle.tables.specs.Edges.{Sought}
 use Rattle.rows.specs.Plains.{plainPlan, plainRight, plainUp, plainBack, plainEnd, plainWalks, PlainRank, plainEdge, rises, isAcross, PlainSizes, PlainReadable, Within}
 use Rattle.tables.specs.Plans.{strideFor, cellsFor}
 use Rattle.rows.specs.Rows.{Rowing}
-use Rattle.tables.specs.declared.Wall.{Wall}
 use Rattle.tables.proofs.Walls.{wall-none}
-use Rattle.tables.proofs.Laws.{sum-more, mul-bound, onward, via-left, via-under, walks-start, walks-step, cell-value}
+use Rattle.tables.proofs.Laws.{sum-more, mul-bound, via-left, via-under, walks-start, walks-step, cell-value}
 use Rattle.tables.proofs.Counts.{pos-of}
 use Rattle.tables.proofs.Columns.{source-in, grow}
 use Rattle.tables.proofs.Phases.{last-row}
-use Rattle.tables.proofs.Reading.{wordTo, ok}
-use Rattle.tables.proofs.Numbers.{Stand, reads-at, Walking, walking-start, stepped, step-as, not-letter, not-right, not-up, not-start, walking-end}
+use Rattle.tables.proofs.Numbers.{Stand, stand-in, stand-is, barren, reads-at, Walking, walking-start, stepped, step-as, not-letter, not-right, not-up, not-start, walking-end}
 use Rattle.tables.proofs.Building.{Writing, next-letter, write-as, writing-start, writing-end, left-of, seek-here, seek-end}
 use Rattle.rows.proofs.Plains.{plain-steps}
-use Rattle.rows.proofs.Along.{Along, place-one, place-in, place-far, row-at, row-small, row-far, along-start, along-in, along-far, next-in, next-small, along-over, along-next}
+use Rattle.rows.proofs.Along.{Along, place-one, place-far, row-at, row-small, row-far, along-start, along-in, along-far, next-in, next-small, along-over, along-next}
 
 two-there : (d : Bool) → (2 ≤ pick d 3 2) × (pick d 3 2 ≤ 8)
 two-there true = (omega arith, omega arith)
@@ -120,12 +115,6 @@ pub record Near (c : Plain) (val : List ℕ) (x y cell n o : ℕ) : Type 0 where
 
 -- what stands as far back as a step leads is what the step brings: where it leads out of the grid, a zero
 module _ (c : Plain) {val : List ℕ} (fu : PlainReadable c val) {x y cell : ℕ} (st : Stand (plainPlan c) (plainRight c) (plainUp c) x y cell) where
-  pub cell-in : cell < length val
-  cell-in = omega (arith, st .at, place-in 1 (c .n + c .m) (plainPlan c .ey) x y (st .end) (st .ends .0), fu .ready .room)
-
-  pub cell-is : getD val cell 0 ≡ walks c x y
-  cell-is = cell-value _ (getD (fu .solid .ov) cell 0) _ (rw (st .at) (fu .solid .flags .right x y (omega (arith, st .end)) (st .ends))) (st .fits)
-
   pub all-le : sum (steps-via c x y) (plainPlan c .k) ≤ walks c x y
   all-le = elim (decLt 0 x) [
     | yes px ↦ omega (arith, walks-step (plainPlan c .k) (plainPlan c .wall) (plainRight c) (plainUp c) (pos-of (fu .ready .slopes)) x y px (level c x y))
@@ -160,8 +149,8 @@ module _ (c : Plain) {val : List ℕ} (fu : PlainReadable c val) {x y cell : ℕ
   near {n} {o} en eo = record {
     north-back = back-n;
     east-back = back-e;
-    north-in = omega (arith, cell-in);
-    east-in = omega (arith, cell-in);
+    north-in = omega (arith, stand-in fu st);
+    east-in = omega (arith, stand-in fu st);
     north-is = is-north;
     east-is = is-east;
     one = omega (arith, is-north);
@@ -252,20 +241,13 @@ pub record Led (c : Plain) (val e : List ℕ) (acc cell i : ℕ) : Type 0 where
   pub none : getD val cell 0 ≡ 0 → PlainRank c e NoEdge
   pub some : (getD val cell 0 ≡ 0 → ⊥) → Here c val e acc cell i
 
--- no string leads to where no walk does
-barren : (k : ℕ) (f : Wall) (sa sc : List ℕ) → ((i : ℕ) → i < k → 1 ≤ getD sa i 0) → (e : List ℕ) (i x y : ℕ) → walksTo k f sa sc x y ≡ 0 → ok true k f sa sc e i x y ≡ false
-unfolding ok walksTo paths
-barren k f sa sc pos e i x y z =
-    let G = stepsIn k f sa sc in
-    is-false (ok true k f sa sc e i x y) (λ t. omega (arith, z, rank-below (grid G) (grid-lawful G (onward k f sa sc pos)) (wordTo (placeOf true) e i) (walkEnd k f sa sc x y) t))
-
 module _ (c : Plain) {val e : List ℕ} where
   led : {acc x y cell i : ℕ} → Walking true (plainPlan c) (plainRight c) (plainUp c) (plainBack c) val e acc x y cell i → Led c val e acc cell i
   led {acc} {x} {y} {cell} {i} w = record {
     full = w .full;
     i-le = w .i-le;
-    inside = cell-in c (w .full) (w .stand);
-    none = λ z. sym (w .same) ∙ barren (plainPlan c .k) (plainPlan c .wall) (plainRight c) (plainUp c) (pos-of (w .full .ready .slopes)) e i x y (sym (cell-is c (w .full) (w .stand)) ∙ z);
+    inside = stand-in (w .full) (w .stand);
+    none = λ z. sym (w .same) ∙ barren true (plainPlan c .k) (plainPlan c .wall) (plainRight c) (plainUp c) (pos-of (w .full .ready .slopes)) e i x y (sym (stand-is (w .full) (w .stand)) ∙ z);
     some = λ n. record { x = x; y = y; walking = w };
   }
 
@@ -332,7 +314,7 @@ module _ {c : Plain} {val e : List ℕ} {acc cell i n o : ℕ} (t : Reading c va
       out r z = record {
         full = walking .full;
         i-le = omega (arith, walking .i-le);
-        inside = omega (arith, cell-in c (walking .full) (walking .stand));
+        inside = omega (arith, stand-in (walking .full) (walking .stand));
         none = λ _. r;
         some = λ f. absurd (f (brings c (walking .full) (walking .stand) l k eb far ∙ z));
       }

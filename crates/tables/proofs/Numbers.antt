@@ -3,12 +3,13 @@
 --   brought                      what a last step stands for, in the reader's words and in the table's
 --   num, num-all, num-none, num-step    the number of the first i letters, to (x, y)
 --   Stand                        (x, y) at a cell lies before the end, and its count fits
+--   stand-in, stand-is           what such a cell holds; barren: no string leads to where no walk does
 --   reads-at, stand-back         what can be read at a cell that stands before the end, and one step back
 --   read-in, read-is, read-more  the loop of `part_sum`
 --   reads-sum, reads-summed, reads-sought    what the cells say is what the steps bring
---   Walking, walking-start, last-in, stays-fits, step-in, step-byte, Stepped, stepped, step-as, step-sum, ends-fit, walking-end    the loop of `read`
---   not-inside, not-letter, not-right, not-up, not-start    where it finds that the bytes are no edge
-use mathlib.Core.Path.{_≡_, refl, sym, ap, _∙_, subst}
+--   Walking, walking-start, last-in, cell-byte, not-there, there, step-in, step-byte, Stepped, stepped, step-as, step-sum, ends-fit, walking-end    the loop of `read`
+--   not-letter, not-right, not-up, not-start    where it finds that the bytes are no edge
+use mathlib.Core.Path.{_≡_, refl, sym, ap, _∙_}
 use mathlib.Core.Bool.{Bool, false}
 use mathlib.Core.List.{List, _∷_}
 use Prim.Native.Nat.{ℕ, _+_, _-_, _*_, _^_, _≤_, _<_}
@@ -19,24 +20,27 @@ use lib.Dec.{T}
 use lib.ListN.{length, getD}
 use borrow.Author.Tests.{eq-eqb, ne-eqb}
 use Rattle.howmany.specs.Sum.{sum}
+use Rattle.howmany.proofs.Choices.{is-false}
 use Rattle.howmany.proofs.Sums.{sum-cong, sum-mono, sum-below}
 use Rattle.lines.specs.declared.Rank.the-variants.{At, NoEdge}
 use Rattle.backward.specs.Reader.{rank, count}
-use Rattle.backward.specs.Grid.{grid}
-use Rattle.backward.proofs.Grids.{back-count}
+use Rattle.backward.specs.Grid.{grid, paths}
+use Rattle.backward.proofs.Backward.{rank-below}
+use Rattle.backward.proofs.Grids.{back-count, grid-lawful}
 use Rattle.tables.specs.Form.{wall, stepsIn, spot, walksTo, via}
 use Rattle.letters.specs.Letters.{placeOf}
 use Rattle.tables.specs.Cells.{capOf, cellAt, place, sourceOf}
 use Rattle.tables.specs.declared.Plan as plans
-use Rattle.tables.specs.Table.{Bounded, Ends, Cells}
+use Rattle.tables.specs.Table.{Ends, Cells}
 use Rattle.tables.specs.Plans.{strideFor, walksFor, validFor, rankFor, RankFor}
 use Rattle.tables.specs.Filling.{AllRight, Readable}
 use Rattle.tables.specs.Edges.{walkEnd, walkNumber, broughtAt, Summed, Reads, Sought}
-use Rattle.tables.proofs.Laws.{onward, sum-more, via-in, walks-step, cell-value}
+use Rattle.tables.proofs.Laws.{onward, sum-more, via-in, walks-out, walks-step, cell-value}
+use Rattle.tables.proofs.Walls.{tested}
 use Rattle.tables.proofs.Counts.{pos-of}
 use Rattle.tables.proofs.Columns.{source-left, source-in, rows, grow, ends-back, brings}
 use Rattle.tables.proofs.Phases.{last-row}
-use Rattle.tables.proofs.Reading.{wordTo, word-all, word-cons, word-none, back-is, end-in, ok, ok-all, ok-end, ok-out, ok-no-letter, ok-left, ok-under, ok-step}
+use Rattle.tables.proofs.Reading.{wordTo, word-all, word-cons, word-none, back-is, end-in, ok, ok-all, ok-end, ok-no-letter, ok-left, ok-under, ok-step}
 use Rattle.tables.specs.declared.Wall.{Wall}
 
 -- ---- numbers of words
@@ -81,15 +85,23 @@ pub record Stand (p : plans.Plan) (sa sc : List ℕ) (x y cell : ℕ) : Type 0 w
 cells-less : {p : plans.Plan} {sa sc val : List ℕ} (s : AllRight p sa sc val) (x : ℕ) → x ≤ p .ex → Cells capOf (cellAt val (s .ov)) (p .k) (p .wall) sa sc (p .hi) (p .deep) (p .ex) (p .ey) x
 cells-less s x l = record { right = λ u y h en. s .flags .right u y (omega arith) en; margin = s .flags .margin; front = s .flags .front }
 
+-- what a cell that stands before the end holds
+module _ {p : plans.Plan} {sa sc off val : List ℕ} (fu : Readable p sa sc off val) {x y cell : ℕ} (sp : Stand p sa sc x y cell) where
+  row-in : (x + 1) * strideFor p + strideFor p ≤ length val
+  row-in = omega (arith, fu .ready .room, last-row x (strideFor p), grow (strideFor p) (x + 2) (p .ex + 2) (omega (arith, sp .end)))
+
+  pub stand-in : cell < length val
+  stand-in = omega (arith, sp .at, sp .ends .0, row-in)
+
+  pub stand-is : getD val cell 0 ≡ walksTo (p .k) (p .wall) sa sc x y
+  stand-is = cell-value _ (getD (fu .solid .ov) cell 0) _ (rw (sp .at) (fu .solid .flags .right x y (omega (arith, sp .end)) (sp .ends))) (sp .fits)
+
 module _ {p : plans.Plan} {sa sc off val : List ℕ} (fu : Readable p sa sc off val) {x y cell : ℕ} (sp : Stand p sa sc x y cell) (px : 1 ≤ x) (ins : T (wall (p .wall) x y)) where
   all-of : walksTo (p .k) (p .wall) sa sc x y ≡ sum (via (p .k) (p .wall) sa sc x y) (p .k)
   all-of = walks-step (p .k) (p .wall) sa sc (pos-of (fu .ready .slopes)) x y px ins
 
   via-le : (i : ℕ) → i < p .k → via (p .k) (p .wall) sa sc x y i ≤ walksTo (p .k) (p .wall) sa sc x y
   via-le i l = omega (arith, all-of, sum-below (via (p .k) (p .wall) sa sc x y) i (p .k) l)
-
-  row-in : (x + 1) * strideFor p + strideFor p ≤ length val
-  row-in = omega (arith, fu .ready .room, last-row x (strideFor p), grow (strideFor p) (x + 2) (p .ex + 2) (omega (arith, sp .end)))
 
   eight : (i : ℕ) → i < p .k → i < 8
   eight i l = omega (arith, fu .ready .slopes .most)
@@ -99,8 +111,8 @@ module _ {p : plans.Plan} {sa sc off val : List ℕ} (fu : Readable p sa sc off 
     most = fu .ready .slopes .most;
     back = λ i l ha. omega (arith, fu .ready .offs .is i (eight i l), fu .ready .slopes .deep i (eight i l) (omega (arith, sp .end)), rows (strideFor p) x (getD sa i 0) ha);
     in-val = λ i l. elim (decLe (getD sa i 0) x) [
-      | yes ha ↦ rw (source-in sa off x (place (p .deep) (p .ey) x y) i ha) (omega (arith, row-in, sp .ends .0))
-      | no ha ↦ rw (source-left sa off x (place (p .deep) (p .ey) x y) i (omega arith)) (omega (arith, row-in))
+      | yes ha ↦ rw (source-in sa off x (place (p .deep) (p .ey) x y) i ha) (omega (arith, row-in fu sp, sp .ends .0))
+      | no ha ↦ rw (source-left sa off x (place (p .deep) (p .ey) x y) i (omega arith)) (omega (arith, row-in fu sp))
     ];
     says = λ i l. cell-value _ (getD (fu .solid .ov) (sourceOf sa off x (place (p .deep) (p .ey) x y) i) 0) _
         (rw (add-zero (sourceOf sa off x (place (p .deep) (p .ey) x y) i), add-zero y) at (brings (fu .ready .slopes) (fu .ready .offs) (cells-less (fu .solid) x (sp .end)) px (sp .end) y 0 i (eight i l)
@@ -152,6 +164,15 @@ module _ {k : ℕ} {f : Wall} {sa sc off val : List ℕ} {x y p : ℕ} (rd : Rea
         left = omega (arith, e, so .left);
       }
 
+-- no string leads to where no walk does
+pub barren : (lettered : Bool) (k : ℕ) (f : Wall) (sa sc : List ℕ) → ((i : ℕ) → i < k → 1 ≤ getD sa i 0) → (e : List ℕ) (i x y : ℕ) → walksTo k f sa sc x y ≡ 0
+    → ok lettered k f sa sc e i x y ≡ false
+unfolding ok walksTo paths
+barren lettered k f sa sc pos e i x y z =
+    let G = stepsIn k f sa sc in
+    is-false (ok lettered k f sa sc e i x y)
+    (λ t. omega (arith, z, rank-below (grid G) (grid-lawful G (onward k f sa sc pos)) (wordTo (placeOf lettered) e i) (walkEnd k f sa sc x y) t))
+
 -- ---- the loop of `read`: the letters from i on led back from the end to (x, y). What they stand for and all walks to (x, y) are no more
 -- than the walks to the end, so that the sum fits, be the bytes an edge or not
 
@@ -196,9 +217,6 @@ module _ {lettered : Bool} {p : plans.Plan} {sa sc off val e : List ℕ} where
     pub last-in : 0 < i → i - 1 < length e
     last-in h = omega (arith, w .i-le)
 
-    pub stays-fits : Bounded (p .wall) × (x ≤ 97)
-    stays-fits = (w .full .ready .sizes .wall-le, omega (arith, w .stand .end, w .full .ready .sizes .ex-le))
-
     pub step-in : {l : ℕ} → l < p .k → l < 8
     step-in b = omega (arith, w .full .ready .slopes .most)
 
@@ -208,12 +226,23 @@ module _ {lettered : Bool} {p : plans.Plan} {sa sc off val e : List ℕ} where
     no-edge : ok lettered (p .k) (p .wall) sa sc e i x y ≡ false → RankFor lettered p sa sc e NoEdge
     no-edge o = sym (w .same) ∙ o
 
+    pub cell-byte : cell * 8 < 2 ^ 64
+    cell-byte = omega (arith, w .stand .at, w .stand .end, w .stand .ends .0, w .full .ready .sizes .cells, grow (strideFor p) (x + 2) (p .ex + 2) (omega (arith, w .stand .end)), last-row x (strideFor p))
+
+    -- the cell says whether a walk leads there at all
+    pub not-there : getD val cell 0 ≡ 0 → RankFor lettered p sa sc e NoEdge
+    not-there z =
+        no-edge (barren lettered (p .k) (p .wall) sa sc (pos-of (w .full .ready .slopes)) e i x y (sym (stand-is (w .full) (w .stand)) ∙ z))
+
+    pub there : (getD val cell 0 ≡ 0 → ⊥) → T (wall (p .wall) x y)
+    there n = elim (tested (wall (p .wall) x y)) [
+      | yes t ↦ t
+      | no o ↦ absurd (n (stand-is (w .full) (w .stand) ∙ walks-out (p .k) (p .wall) sa sc (pos-of (w .full .ready .slopes)) x y o))
+    ]
+
     module _ (h : 0 < i) {l : ℕ} (q : l ≡ placeOf lettered (getD e (i - 1) 0)) where
       pos : (j : ℕ) → j < p .k → 1 ≤ getD sa j 0
       pos = pos-of (w .full .ready .slopes)
-
-      pub not-inside : wall (p .wall) x y ≡ false → RankFor lettered p sa sc e NoEdge
-      not-inside o = no-edge (ok-out lettered (p .k) (p .wall) sa sc e pos i x y l h q (λ t. subst T o t))
 
       module _ (n : T (wall (p .wall) x y)) where
         pub not-letter : p .k ≤ l → RankFor lettered p sa sc e NoEdge

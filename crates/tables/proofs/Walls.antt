@@ -12,7 +12,6 @@
 --   sixth-of                 what `reach_of` finds
 --   from-fence, from-end, to-reach, to-end                   what `from_at` and `to_at` find
 --   spans-none, spans-more, spans-all    what `spans` has before its loop, after a turn of it, and at its end; span-low, span-high: what it finds of a column
---   stays-not, stays-by      what `stays` finds
 --   wall-in                  the wall lets a walk be at the heights that matter
 use mathlib.Core.Path.{_≡_, refl, sym, ap, _∙_}
 use mathlib.Core.Bool.{Bool, true, false}
@@ -26,7 +25,7 @@ use lib.ListN.{length, getD, set}
 use lib.Seq.{getD-set-same, getD-set-other}
 use borrow.Author.Count.{below-more}
 use borrow.Author.Tests.{le-leb, lt-leb}
-use Rattle.howmany.proofs.Choices.{holds, is-true, is-false}
+use Rattle.howmany.proofs.Choices.{holds}
 use Rattle.tables.specs.declared.Wall.{Wall}
 use Rattle.tables.specs.Form.{wall, fence, unwalled, Slight}
 use Rattle.tables.specs.Shapes.{Fenced}
@@ -151,17 +150,6 @@ module _ (f : Wall) (x : ℕ) where
 
       pub roof-high : y ≤ f .slope * x + f .start → Roof f x y y
       roof-high k = record { inside = λ _. k; beyond = λ v h t. h }
-
-module _ {f : Wall} {x y low : ℕ} (w : Fence f x low) where
-  pub stays-not : y < low → false ≡ wall f x y
-  stays-not l = sym (is-false (wall f x y) (w .least y l))
-
-  pub stays-by : {high : ℕ} → Roof f x y high → low ≤ y → leb y high ≡ wall f x y
-  stays-by {high} r l =
-      elim (decLe y high) [
-        | yes h ↦ le-leb y high h ∙ sym (is-true (wall f x y) (wall-between f x y (λ k. omega (arith, w .inside k)) (λ k. omega (arith, r .inside k))))
-        | no h ↦ lt-leb y high (omega arith) ∙ sym (is-false (wall f x y) (λ t. omega (arith, r .beyond y (omega arith) t)))
-      ]
 
 pub sixth-of : (hi slope x : ℕ) → slope * 6 ≡ hi → hi * x ≡ 6 * (slope * x)
 sixth-of hi slope x e = rw (← e) (ap (λ (z : ℕ). z * x) (mul-comm slope 6) ∙ mul-assoc 6 slope x)
