@@ -36,7 +36,8 @@ use Rattle.lines.specs.declared.Rank.{Rank}
 use Rattle.lines.specs.declared.Rank.the-variants.{At, NoEdge}
 use Rattle.lines.specs.declared.Ranked.the-variants.{Upto}
 use Rattle.lines.specs.Known.{CountsOf, NumbersOf, edgesOf}
-use Rattle.lines.proofs.Ranking.{Ranks, ranked-of}
+use Rattle.lines.specs.Ranks.{FrontIn}
+use Rattle.lines.proofs.Ranking.{ranked-of}
 use Rattle.arch.specs.Answers.{archJob, Numbered, RankOf}
 use Rattle.arch.specs.Table.{Table}
 use Rattle.arch.proofs.Tables.{table-less}
@@ -90,7 +91,7 @@ module _ {d : Bool} {v n : ℕ} {table : List ℕ} (full : Table d v n table) wh
   rank-of s (At r) w = (is-true (isEdge (archJob d v n) s) (walk-valid (archJob d v) d v (sort .arched) n s (w .walk)), w .numbered ∙ sym (sort .numbers n s))
   rank-of s NoEdge w = is-false (isEdge (archJob d v n) s) (λ t. w (valid-walk (archJob d v) d v (sort .arched) n s t))
 
-  pub numbers-of : (es : List (List ℕ)) (before after : List ℕ) (k : ℕ) → Ranks (isEdge (archJob d v n)) (numberOf (archJob d v n)) es before after k
+  pub numbers-of : (es : List (List ℕ)) (before after : List ℕ) (k : ℕ) → FrontIn (isEdge (archJob d v n)) (numberOf (archJob d v n)) es before after k
       → NumbersOf (archJob d v n) es before after (Upto k)
   numbers-of es before after k w =
       rw (fits d v (full .family) n (full .fits)) (ranked-of (isEdge (archJob d v n)) (numberOf (archJob d v n)) es before after k w)

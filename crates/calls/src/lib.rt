@@ -1,5 +1,5 @@
 // Count, width, number and build for all seven families: each call is answered by the crate that has the block's family. They are asked in
-// turn, `rows` first, which tells in the fewest instructions that a family is another crate's.
+// turn, `rows` first: of its smallest jobs a question more is the largest part.
 ghost use mathlib.Core.Path.{_≡_};
 ghost use Prim.Native.Nat.{ℕ};
 ghost use lib.ListN.{length};

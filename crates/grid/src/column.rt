@@ -1,4 +1,4 @@
-// A column of the table summed without a test. Cell (x, y) stands at (x + 1) * stride + m + y: below each column m zeros, before all a column of zeros.
+// A column of the table summed without a test. Cell (x, y) stands at (x + 1) * stride + deep + y: below each column deep zeros, before all a column of zeros.
 ghost use mathlib.Core.Path.{_≡_};
 ghost use mathlib.Core.Bool.{true};
 ghost use Prim.Native.Nat.{ℕ, _+_, _≤_, _<_};

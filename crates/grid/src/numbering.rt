@@ -3,7 +3,7 @@ ghost use mathlib.Core.Bool.{false};
 ghost use Prim.Native.Nat.{_≤_};
 ghost use lib.ListN.{length};
 ghost use Rattle.lines.specs.Lines.{cutFrom};
-ghost use Rattle.lines.proofs.Ranking.{Ranks};
+ghost use Rattle.lines.specs.Ranks.{FrontIn};
 ghost use Rattle.tables.specs.Calls.{Countable, NumbersAs};
 ghost use Rattle.tables.specs.Plans.{Planned, Narrow, PreparedFor, validFor, rankFor, NumbersFor};
 ghost use Rattle.tables.specs.Filling.{Blank, Readable};
@@ -31,7 +31,7 @@ fn number_each(
     numbers: &mut [u64],
 ) -> usize
     requires { ⌜ Readable p (now sa) (now sc) (now off) (now val) × (length (now ends) ≤ length (now numbers)) ⌝ }
-    ensures { λ n. ⌜ Ranks (validFor false p (now (sa .entry)) (now (sc .entry))) (rankFor false p (now (sa .entry)) (now (sc .entry))) (cutFrom from (now (ends .entry)) (now (bytes .entry))) (now (numbers .entry)) (now (numbers .exit)) n ⌝ }
+    ensures { λ n. ⌜ FrontIn (validFor false p (now (sa .entry)) (now (sc .entry))) (rankFor false p (now (sa .entry)) (now (sc .entry))) (cutFrom from (now (ends .entry)) (now (bytes .entry))) (now (numbers .entry)) (now (numbers .exit)) n ⌝ }
 {
     let mut at = from;
     let mut i: usize = 0;

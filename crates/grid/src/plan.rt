@@ -31,15 +31,15 @@ fn steeper(hi: usize, a: usize, c: usize, ex: usize) -> usize
     greater(hi, 2 * c)
 }
 
-// The greater of m and the height of a step that is there.
-fn deeper(m: usize, a: usize, c: usize, top: usize, ex: usize) -> usize
-    requires { ⌜ (m ≤ top) × (c ≤ top) ⌝ }
-    ensures { λ r. ⌜ (m ≤ r) × (r ≤ top) × (a ≤ ex → c ≤ r) ⌝ }
+// The greater of deep and the height of a step that is there.
+fn deeper(deep: usize, a: usize, c: usize, top: usize, ex: usize) -> usize
+    requires { ⌜ (deep ≤ top) × (c ≤ top) ⌝ }
+    ensures { λ r. ⌜ (deep ≤ r) × (r ≤ top) × (a ≤ ex → c ≤ r) ⌝ }
 {
     if ex < a {
-        return m;
+        return deep;
     }
-    if m < c { c } else { m }
+    if deep < c { c } else { deep }
 }
 
 fn is_few(sa: &[usize; 8], ex: usize) -> bool

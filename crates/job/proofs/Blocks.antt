@@ -21,10 +21,9 @@ use lib.IntN.{ℤ, pos, negsuc}
 use lib.ListN.{length, take, drop, getD, length-drop, length-take, drop-of-length-le}
 use lib.Seq.{drop-cons, drop-length, getD-take, getD-drop, take-all}
 use borrow.Author.Tests.{eq-eqb, ne-eqb, lt-ltb, le-ltb, le-leb, lt-leb}
-use Rattle.rules.specs.Points.{leℤ, eqℤ}
+use Rattle.rules.specs.Points.{Is, leℤ, eqℤ}
 use Rattle.rules.specs.Jobs.{Pair}
 use Rattle.rules.specs.Blocks.{families, blockLength, paired, signed, familyOf, nOf, mOf, kOf, zeros, pairsIn, used, unused, formed, between, square, small, sizedLettered, sizedDirected, sized, isIn, twins}
-use Rattle.rules.proofs.Shear.{Is}
 use Rattle.rules.proofs.Letters.{eqℤ-eq, eqℤ-refl}
 use Rattle.rules.proofs.Signed.{is-up, is-fence}
 use Rattle.howmany.specs.Choose.{pick}

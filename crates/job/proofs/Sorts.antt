@@ -1,5 +1,4 @@
--- What a held job stands for, by what its family has in common with others: the one place that goes through all families of a held job for
--- it. Assumes nothing.
+-- What a held job stands for, by what its family has in common with others. Assumes nothing.
 --
 --   AsPlain, plain-of           families 1 and 3; the job has a step D or not
 --   AsSquare, square-of         families 2, 4 and 5

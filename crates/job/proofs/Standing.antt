@@ -17,8 +17,7 @@ use Rattle.howmany.proofs.Choices.{and-left, and-right, is-true, holds}
 use Rattle.howmany.proofs.Cases.{eight}
 use Rattle.rules.specs.Jobs as rules
 use Rattle.rules.specs.Jobs.{Pair, pairAt}
-use Rattle.rules.specs.Points.{height}
-use Rattle.rules.proofs.Shear.{Is}
+use Rattle.rules.specs.Points.{Is, height}
 use Rattle.rules.specs.Refusals.{Answer, Refusal, check, refusalNumber}
 use Rattle.rules.specs.Refusals.Refusal.{form, size, twin}
 use Rattle.rules.specs.Refusals.Answer.{accepted, refused}

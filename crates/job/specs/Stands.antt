@@ -13,8 +13,8 @@ use lib.ListN.{length, getD}
 use Rattle.rules.specs.Jobs as rules
 use Rattle.rules.specs.Jobs.{Pair, pairAt}
 use Rattle.rules.specs.Jobs.Job.{north-east, dyck, delannoy, schroder, motzkin, directed}
-use Rattle.rules.proofs.Shear.{Is}
 use Rattle.job.specs.declared.Job.{Job}
+use Rattle.rules.specs.Points.{Is}
 
 pub record Level (j : Job) (m : ℕ) : Type 0 where
   pub n-most : j .n ≤ 64

@@ -272,7 +272,7 @@ fn is_sized(block: &[u8]) -> bool
     is_sized_lettered(block)
 }
 
-// Whether a pair from place j on equals pair i.
+// Whether a later pair equals pair i.
 fn is_in(block: &[u8], k: usize, i: usize) -> bool
     requires { ⌜ Pairs (now block) k × (i < k) ⌝ }
     ensures { λ r. ⌜ r ≡ isIn (pairOf (now (block .entry)) i) (drop (i + 1) (used (now (block .entry)))) ⌝ }

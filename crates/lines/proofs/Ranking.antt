@@ -5,7 +5,6 @@
 --   cut-many           as many parts as ends
 --   Ranking ..         the first i edges have passed, and their numbers are written
 --   ranking-none, ranking-next    none of them, and one more; ranking-room: there is room for one more
---   Ranks ..           what is written in the end, and how many
 --   ranking-stop, ranking-all     an edge doesn't pass, or all have
 --   part-rank          what is read of an edge that is lent as a part, said of the part's bytes
 --   ranks-short, ranks-room       what is answered where there is no room, and where there is
@@ -40,7 +39,7 @@ use Rattle.lines.specs.declared.Rank.{Rank}
 use Rattle.lines.specs.declared.Ranked.{Ranked}
 use Rattle.lines.specs.declared.Ranked.the-variants.{NoRoom, Upto, Refused}
 use Rattle.lines.specs.Lines.{lesser, cutFrom}
-use Rattle.lines.specs.Ranks.{RankIs, frontBy, ranksOf, ranksAnswer, ranked, ranks, RankedAs}
+use Rattle.lines.specs.Ranks.{RankIs, frontBy, FrontIn, ranksOf, ranksAnswer, ranked, ranks, RankedAs}
 use Rattle.lines.proofs.Cutting.{part-cut}
 
 module _ (ok ok′ : List ℕ → Bool) (number number′ : List ℕ → ℕ) (same : (e : List ℕ) → ok e ≡ ok′ e) (agree : (e : List ℕ) → ok′ e ≡ true → number e ≡ number′ e) where
@@ -68,10 +67,6 @@ module _ (ok : List ℕ → Bool) (number : List ℕ → ℕ) where
     pub so-far : frontBy ok number (cutFrom from ends s) ≡ front ++ frontBy ok number (cutFrom at (drop i ends) s)
     pub written : numbers ≡ front ++ drop i before
     pub as-many : length numbers ≡ length before
-
-  pub record Ranks (es : List (List ℕ)) (before after : List ℕ) (n : ℕ) : Type 0 where
-    pub many : n ≡ length (frontBy ok number es)
-    pub written : after ≡ frontBy ok number es ++ drop n before
 
   pub ranking-none : (from : ℕ) (ends s before : List ℕ) → length ends ≤ length before → Ranking from ends s before 0 from before
   ranking-none from ends s before r = record {
@@ -118,18 +113,18 @@ module _ (ok : List ℕ → Bool) (number : List ℕ → ℕ) where
         rest : List ℕ
         rest = frontBy ok number (cutFrom (getD ends i 0) (drop (i + 1) ends) s)
 
-    ended : frontBy ok number (cutFrom from ends s) ≡ so .front → Ranks (cutFrom from ends s) before numbers i
+    ended : frontBy ok number (cutFrom from ends s) ≡ so .front → FrontIn ok number (cutFrom from ends s) before numbers i
     ended e = record {
       many = sym (so .many) ∙ ap length (sym e);
       written = so .written ∙ ap (λ (z : List ℕ). z ++ drop i before) (sym e);
     }
 
-    pub ranking-stop : i < length ends → ok (partOf s at (getD ends i 0)) ≡ false → Ranks (cutFrom from ends s) before numbers i
+    pub ranking-stop : i < length ends → ok (partOf s at (getD ends i 0)) ≡ false → FrontIn ok number (cutFrom from ends s) before numbers i
     unfolding edge
     ranking-stop l t =
         ended (opened l ∙ ap (λ (b : Bool). so .front ++ pick b (number edge ∷ frontBy ok number (cutFrom (getD ends i 0) (drop (i + 1) ends) s)) []) t ∙ append-nil (so .front))
 
-    pub ranking-all : length ends ≤ i → Ranks (cutFrom from ends s) before numbers i
+    pub ranking-all : length ends ≤ i → FrontIn ok number (cutFrom from ends s) before numbers i
     unfolding frontBy cutFrom
     ranking-all l =
         ended (so .so-far ∙ ap (λ (z : List ℕ). so .front ++ frontBy ok number (cutFrom at z s)) (drop-of-length-le ends {i = i} l) ∙ append-nil (so .front))
@@ -140,7 +135,7 @@ part-rank ok number s at end p h w e =
     let b : p .now ≡ partOf (s .now) at end = h .bytes ∙ part-cut (s .now) at end in
     subst (RankIs (ok (partOf (s .now) at end)) (number (partOf (s .now) at end))) e (rw b at w)
 
-pub ranked-of : (ok : List ℕ → Bool) (number : List ℕ → ℕ) (es : List (List ℕ)) (before after : List ℕ) (n : ℕ) → Ranks ok number es before after n
+pub ranked-of : (ok : List ℕ → Bool) (number : List ℕ → ℕ) (es : List (List ℕ)) (before after : List ℕ) (n : ℕ) → FrontIn ok number es before after n
     → RankedAs (ranked (accepted (frontBy ok number es)) before) (Upto n) after
 unfolding ranked
 ranked-of ok number es before after n w = record {

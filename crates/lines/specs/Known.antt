@@ -6,7 +6,7 @@
 --   edgesOf J ns            the edges of the numbers ns of the job J, or refusal 4 or 6
 --   BuildsOf J ns ..        those edges written
 --   Refusing mine room b r  the family is mine, there is room, and the block is refused with the number r, 1 to 4
---   Ending mine room b J    the same, and J is the block's job, whose count may not fit
+--   Ending mine room b J    the family is mine, there is room, and J is the block's job, whose count may not fit
 use mathlib.Core.Path.{_≡_}
 use mathlib.Core.Bool.{Bool, true}
 use mathlib.Core.List.{List, map}

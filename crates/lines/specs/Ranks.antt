@@ -2,8 +2,10 @@
 --
 --   frontBy ok number es    the numbers of the edges es, up to the first that isn't ok
 --   RankIs ok n r           r says that an edge is ok and has the number n, or that it isn't ok
---   ranksOf J es            the same of the valid edges of the job J; ranksAnswer block es: of the job of a block
+--   FrontIn ok number es before after n    the first n of the numbers `before` are now those of frontBy, and the others are as they were
+--   ranksOf J es            frontBy of the valid edges of the job J and their numbers; ranksAnswer block es: of the job of a block
 --   Ranks, RankedAs w r s   what is told of a list of edges, and the lent numbers after it; that r and s are those
+--   ranked a numbers        the numbers written to the front, and how many; rankedSays: what each case of Ranked says of it
 --   ranks a many numbers    the numbers written to the front, and how many: only where there is room for all
 use mathlib.Core.Path.{_≡_}
 use mathlib.Core.Bool.{Bool, true, false}
@@ -33,6 +35,10 @@ frontBy ok number (e ∷ es) = pick (ok e) (number e ∷ frontBy ok number es) [
 abbrev pub RankIs : Bool → ℕ → Rank → Type 0
 RankIs ok n (At r) = (ok ≡ true) × (r ≡ n)
 RankIs ok n NoEdge = ok ≡ false
+
+pub record FrontIn (ok : List ℕ → Bool) (number : List ℕ → ℕ) (es : List (List ℕ)) (before after : List ℕ) (n : ℕ) : Type 0 where
+  pub many : n ≡ length (frontBy ok number es)
+  pub written : after ≡ frontBy ok number es ++ drop n before
 
 abbrev pub ranksOf : Job → List (List ℕ) → List ℕ
 ranksOf J es = frontBy (isEdge J) (numberOf J) es

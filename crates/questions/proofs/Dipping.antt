@@ -23,13 +23,12 @@ use Rattle.howmany.specs.Choose.{pick, onlyIf}
 use Rattle.howmany.specs.Least.{least}
 use Rattle.howmany.proofs.Choices.{and-left, and-right, is-true, is-false, holds}
 use Rattle.howmany.proofs.Leasts.{least-on, least-at}
-use Rattle.rules.specs.Points.{Point, moved, leℤ}
+use Rattle.rules.specs.Points.{Is, Point, moved, leℤ}
 use Rattle.rules.specs.Jobs as rules
 use Rattle.rules.specs.Jobs.{Pair, one, stepsOf, startOf, stays}
 use Rattle.rules.specs.Jobs.Job.{directed}
 use Rattle.rules.specs.Valid.{place, at, walks, isEdge, Valid}
 use Rattle.rules.specs.Places.{placeOf}
-use Rattle.rules.proofs.Shear.{Is}
 use Rattle.rules.specs.Refusals.{Answer, check, andThen, refusalNumber}
 use Rattle.rules.specs.Refusals.Refusal.{not-an-edge, kind}
 use Rattle.rules.specs.Refusals.Answer.{accepted, refused}

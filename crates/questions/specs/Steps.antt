@@ -9,12 +9,12 @@ use Prim.Native.Nat.{ℕ, _-_, _≤_, _<_}
 use lib.ListN.{length, getD}
 use Rattle.rules.specs.Jobs as rules
 use Rattle.rules.specs.Jobs.{one}
-use Rattle.rules.proofs.Shear.{Is}
 use Rattle.rules.specs.Questions.{slope, dipOf}
 use Rattle.job.specs.declared.Job.{Job}
 use Rattle.job.specs.Replies.Reply.{value}
 use Rattle.questions.specs.declared.Dips.{Dips}
 use Rattle.questions.specs.Replies.{dipSays}
+use Rattle.rules.specs.Points.{Is}
 
 pub record Slopes (b e : List ℕ) (J : rules.Job) : Type 0 where
   pub least : (i : ℕ) → i < length e → one ≤ getD e i 0

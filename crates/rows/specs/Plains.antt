@@ -11,7 +11,7 @@
 --   plainEnd c              where the end's count stands in the table
 --   Within c                 n and m are at most 64
 --   PlainSizes, PlainReady, PlainBlank, PlainReadable    SizesFor, PreparedFor, Blank and Readable by that plan and these steps
---   plainWalks, plainValid, plainNumber, PlainRank, PlainRanks, PlainNumbers, plainEdge, PlainLists, PlainBuilds    walksFor, validFor, rankFor, RankFor, Ranks, NumbersFor, edgeFor,
+--   plainWalks, plainValid, plainNumber, PlainRank, PlainRanks, PlainNumbers, plainEdge, PlainLists, PlainBuilds    walksFor, validFor, rankFor, RankFor, FrontIn, NumbersFor, edgeFor,
 --                            ListsFor and BuildsFor by them
 use mathlib.Core.Bool.{Bool, true, not, _&&_}
 use mathlib.Core.List.{List, [], _∷_, map}
@@ -28,8 +28,7 @@ use Rattle.job.specs.declared.Built.{Built}
 use Rattle.rows.specs.declared.plain.Plain.{Plain}
 use Rattle.lines.specs.declared.Rank.{Rank}
 use Rattle.lines.specs.declared.Ranked.{Ranked}
-use Rattle.lines.specs.Ranks.{RankIs}
-use Rattle.lines.proofs.Ranking.{Ranks}
+use Rattle.lines.specs.Ranks.{RankIs, FrontIn}
 use Rattle.tables.specs.declared.Plan.{Plan}
 use Rattle.tables.specs.Form.{unwalled}
 use Rattle.tables.specs.Cells.{place}
@@ -121,7 +120,7 @@ PlainRank c e r = RankIs (plainValid c e) (plainNumber c e) r
 
 -- the numbers of n edges of es written, up to the first that is none
 abbrev pub PlainRanks : Plain → List (List ℕ) → List ℕ → List ℕ → ℕ → Type 0
-PlainRanks c es before after n = Ranks (plainValid c) (plainNumber c) es before after n
+PlainRanks c es before after n = FrontIn (plainValid c) (plainNumber c) es before after n
 
 -- those numbers, or refusal 4
 abbrev pub PlainNumbers : Plain → List (List ℕ) → List ℕ → List ℕ → Ranked → Type 0

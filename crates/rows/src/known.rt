@@ -28,8 +28,8 @@ fn made_of(block: &[u8]) -> Known
     Known::End(plain_of(made.job))
 }
 
-// The family first, then the room, then refusals 1, 2 and 3. What is made of the block stands apart, since the compiler copies the slice
-// for it: so it does only where the family is 1 or 3.
+// The family first, then the room, then refusals 1, 2 and 3. The job is made in a function of its own: the compiler copies the slice's
+// address and length to memory for it, and so does that only for families 1 and 3.
 pub(crate) fn known_of(block: &[u8], room: bool) -> Known
     ensures { λ r. ⌜ KnownIs (now (block .entry)) room r ⌝ }
 {

@@ -30,7 +30,7 @@ fn is_across(c: Plain, b: u8) -> bool
 }
 
 // The number of the edge e (000, algorithms 1 and 5), or that e is none. No walk leads to a cell of 0, and a step out of the grid
-// leads to one, so neither the column nor the height is kept. Only D from column 0 would leave the table. Until it is known whether
+// leads to one, so neither the column nor the height is kept. Only D from the start would leave the table. Until it is known whether
 // e is an edge the sum fits all the same: with the walks to the cell it is no more than the count.
 fn read(val: &[u64], c: Plain, e: &[u8]) -> Rank
     requires { ⌜ PlainReadable c (now val) ⌝ }

@@ -1,4 +1,4 @@
--- Where a string that is no valid edge goes wrong.
+-- Where a string that is no valid edge goes wrong. The sentences are document 02's, L3; no refusal carries the place.
 --
 --   stepOf J b       the step whose letter is the byte b, if there is one; isStep J b: whether there is
 --   low J p          whether y isn't beyond the end, in families 1 to 5; in 6 and 7 it may be

@@ -29,8 +29,8 @@ use Rattle.job.specs.declared.Counted.the-variants.{Count as Counts, Refused}
 use Rattle.job.proofs.Standing.{Kept}
 use Rattle.lines.specs.declared.Ranked.{Ranked}
 use Rattle.lines.specs.declared.Ranked.the-variants.{Upto, Refused as RanksRefused}
-use Rattle.lines.specs.Ranks.{frontBy, ranksOf, ranked, RankedAs}
-use Rattle.lines.proofs.Ranking.{Ranks, front-cong, ranked-of, ranked-refused}
+use Rattle.lines.specs.Ranks.{frontBy, FrontIn, ranksOf, ranked, RankedAs}
+use Rattle.lines.proofs.Ranking.{front-cong, ranked-of, ranked-refused}
 use Rattle.tables.specs.Cells.{capOf}
 use Rattle.tables.specs.Shapes.{FormOf, Fits, Shaped, ShapedFor}
 use Rattle.tables.specs.Edges as edges
@@ -106,7 +106,7 @@ module _ (lettered : Bool) (p : Plan) (sa sc : List ℕ) (es : List (List ℕ)) 
   ranks-over l =
       ranked-refused (tableRanks lettered (p .k) (p .wall) sa sc (p .ex) (p .ey) es) over 4 before (rw (lt-leb (walksFor p sa sc) most (omega arith)) refl) refl
 
-  pub ranks-fit : (after : List ℕ) (n : ℕ) → walksFor p sa sc < 2 ^ 64 → Ranks (validFor lettered p sa sc) (rankFor lettered p sa sc) es before after n → NumbersFor lettered p sa sc es before after (Upto n)
+  pub ranks-fit : (after : List ℕ) (n : ℕ) → walksFor p sa sc < 2 ^ 64 → FrontIn (validFor lettered p sa sc) (rankFor lettered p sa sc) es before after n → NumbersFor lettered p sa sc es before after (Upto n)
   unfolding tableRanks
   ranks-fit after n l w =
       rw (le-leb (walksFor p sa sc) most (omega arith)) (ranked-of (validFor lettered p sa sc) (rankFor lettered p sa sc) es before after n w)

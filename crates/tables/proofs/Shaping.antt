@@ -24,7 +24,7 @@ use Rattle.howmany.proofs.Cases.{eight}
 use Rattle.backward.specs.Grid.{Spot, Steps, grid, paths}
 use Rattle.backward.specs.Shears.{Slid}
 use Rattle.backward.proofs.Carried.{barren-count}
-use Rattle.rules.specs.Points.{leℤ}
+use Rattle.rules.specs.Points.{Is, leℤ}
 use Rattle.rules.specs.Jobs as rules
 use Rattle.rules.specs.Jobs.{Pair, pairAt, endOf}
 use Rattle.rules.specs.Jobs.Job.{directed}
@@ -32,7 +32,7 @@ use Rattle.rules.specs.Blocks.{paired}
 use Rattle.rules.specs.Valid.{Valid}
 use Rattle.rules.specs.Words.{wordOf}
 use Rattle.rules.specs.Counts.{countOf}
-use Rattle.rules.proofs.Shear.{Is, lift, slopeGrid, Slope}
+use Rattle.rules.proofs.Shear.{lift, slopeGrid, Slope}
 use Rattle.rules.proofs.Signed.{is-shift, is-up, is-lift, is-apart}
 use Rattle.rules.proofs.Sheared.{some-end}
 use Rattle.rules.proofs.Ranges.{Small}

@@ -7,7 +7,7 @@
 --   spot x y               the point (x, y)
 --   walksTo k f sa sc x y        how many walks lead to (x, y)
 --   via k f sa sc x y i    how many of them have step i as their last one
---   Slight f               the wall f is as low as a form's is
+--   Slight f               the wall f has a slope of 6 at most, and starts at 32 at most
 --   Form                   what the code asks of its steps and of the end (ex, ey); a step that isn't there has a = 100 and c = 0
 use mathlib.Core.Path.{_≡_}
 use mathlib.Core.Bool.{Bool, false}

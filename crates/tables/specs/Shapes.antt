@@ -7,7 +7,7 @@
 --   Shaped J s          s says all of the job, whose edges are written in digits: its steps and end, or that nothing leads to its end
 --   ShapedFor j s       the same, of the job that j stands for
 --   Ranged j            the ranges of families 6 and 7
---   Fenced f            the wall f is a fence as those families have
+--   Fenced f            the wall f is a fence of slope 3 at most, which starts at 32 at most
 --   Laying, Laid j f s  their own steps so far; their own shape, with each height as in the job's own grid
 --   Gentle s            the shape s has steps as those families have, and can be lowered
 --   Beyond G q          the end q lies below the least steep step of G, or above the steepest

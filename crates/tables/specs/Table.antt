@@ -9,7 +9,7 @@
 --   Prepared             all of these, for a table of that size
 --   Ends hi ex ey u y    from height y of column u the end's height can still be reached
 --   Fence f x r          r is the lowest height of column x that the wall f allows if it is a fence, else 0
---   Roof f x y r         r is the highest that it allows if it is a roof, or y where that is lower
+--   Roof f x y r         r is no higher than the wall f allows if it is a roof, and of the heights above r those that it allows are above y
 --   From, To             where the heights of column x that matter begin, and end
 --   Spans                where those of the columns from 1 to before n begin, and end; there are no more than 32
 --   Cells T at           the columns before x are right, as far as they can matter; at is what a cell says, T how it says a number

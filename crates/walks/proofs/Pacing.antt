@@ -17,12 +17,11 @@ use lib.ListN.{length, getD}
 use borrow.Author.Tests.{lt-ltb, le-ltb, le-leb, lt-leb, ne-eqb}
 use Rattle.howmany.specs.Choose.{pick}
 use Rattle.howmany.proofs.Cases.{two, three}
-use Rattle.rules.specs.Points.{Point, Step, origin}
+use Rattle.rules.specs.Points.{Is, Point, Step, origin}
 use Rattle.rules.specs.Jobs as rules
 use Rattle.rules.specs.Jobs.{Pair, N, E, D, one, step, numbered, stepsOf, startOf, endOf, stays, isDirected}
 use Rattle.rules.specs.Jobs.Job.{directed}
 use Rattle.rules.specs.Valid.{place, at}
-use Rattle.rules.proofs.Shear.{Is}
 use Rattle.walks.proofs.Spots.{and-true}
 use Rattle.rules.proofs.Slopes.{numbered-length, digit-at, digit-place}
 use Rattle.job.specs.declared.Job.{Job}

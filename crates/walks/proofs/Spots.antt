@@ -3,7 +3,7 @@
 --   is-under, is-least, is-same    tests of a difference
 --   spot x h         the point at x and h; spot-start: where a walk starts
 --   right, above     x and h after a step
---   kept-none        a byte that is no step breaks a rule; kept-beyond, kept-out: so does a step that leads beyond the end, or out
+--   kept-none        a byte that is no step breaks a rule; kept-beyond: so does a step that leads beyond the end
 --   kept-on          any other step keeps the rules
 --   step-to          where it leads
 --   spot-end         whether a point is the end
@@ -17,11 +17,10 @@ use lib.IntN.{ℤ, pos, negsuc, subℕ, _+ℤ_}
 use lib.ListN.{length, getD}
 use borrow.Author.Tests.{lt-ltb, le-ltb, le-leb, lt-leb, eq-eqb, ne-eqb}
 use Rattle.howmany.specs.Choose.{pick}
-use Rattle.rules.specs.Points.{Point, Step, origin, same, moved, leℤ, eqℤ}
+use Rattle.rules.specs.Points.{Is, Point, Step, origin, same, moved, leℤ, eqℤ}
 use Rattle.rules.specs.Jobs.{Job, stepsOf, endOf, stays}
 use Rattle.rules.specs.Valid.{place, at}
 use Rattle.rules.specs.Places.{stepOf, low, inside, keeps}
-use Rattle.rules.proofs.Shear.{Is}
 use Rattle.rules.proofs.Letters.{point-eq}
 use Rattle.rules.proofs.Signed.{is-sub, is-shift, is-plus, is-one, is-fence}
 use Rattle.walks.specs.declared.paces.Paces.{Paces}

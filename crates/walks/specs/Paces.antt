@@ -17,13 +17,12 @@ use lib.Dec.{leb, ltb, eqb}
 use lib.IntN.{pos}
 use lib.ListN.{length, getD}
 use Rattle.howmany.specs.Choose.{pick}
-use Rattle.rules.specs.Points.{Point, Step, origin, leℤ}
+use Rattle.rules.specs.Points.{Is, Point, Step, origin, leℤ}
 use Rattle.rules.specs.Jobs as rules
 use Rattle.rules.specs.Jobs.{stepsOf, startOf, endOf, stays, isDirected}
 use Rattle.rules.specs.Valid.{place, at}
 use Rattle.rules.specs.Places.{placeOf}
 use Rattle.rules.specs.Blocks.{paired}
-use Rattle.rules.proofs.Shear.{Is}
 use Rattle.letters.specs.Letters as letters
 use Rattle.job.specs.declared.Job.{Job}
 use Rattle.walks.specs.declared.paces.Paces.{Paces}
