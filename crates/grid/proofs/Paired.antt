@@ -1,11 +1,10 @@
 -- What is known of a block of family 6 or 7, and of the shape of its job. Assumes nothing.
 --
---   mine-by                  what the family of a block was asked, said of the block
 --   shape-needs              what `shape_of` asks of the block's job
 --   shaped-as                the shape that it answers with is that of the block's job
 --   form-of, narrow-of       what a shape whose end can be reached has, and its plan
 --   numbers-as, builds-as    what its plan's table says is the job's
-use mathlib.Core.Path.{_≡_, sym, ap, _∙_}
+use mathlib.Core.Path.{_≡_, ap, _∙_}
 use mathlib.Core.Bool.{Bool, true, false}
 use mathlib.Core.List.{List}
 use Prim.Native.Nat.{ℕ}
@@ -24,9 +23,6 @@ use Rattle.tables.proofs.Counted.{shaped-in, state-working, plan-numbers}
 use Rattle.tables.proofs.Shaping.{stands-ranged}
 use Rattle.tables.proofs.Builds.{plan-builds}
 use Rattle.grid.specs.Calls.{ShapedAs}
-
-pub mine-by : (b : List ℕ) {f : ℕ} {t u : Bool} → f ≡ familyOf b → t ≡ paired f → t ≡ u → paired (familyOf b) ≡ u
-mine-by b e q r = ap paired (sym e) ∙ sym q ∙ r
 
 module _ (b : List ℕ) (j : Job) (k : Kept b j) (q : paired (familyOf b) ≡ true) where
   pub shape-needs : Ranged j × (paired (j .family) ≡ true)

@@ -2,7 +2,7 @@
 ghost use mathlib.Core.Path.{_≡_};
 ghost use Prim.Native.Nat.{ℕ, _+_, _*_, _%_, _≤_, _<_};
 ghost use lib.ListN.{length, drop, getD};
-ghost use Rattle.rules.specs.Blocks.{familyOf, plain, square, paired, zeros, formed, sized, sizedLettered, sizedDirected, small, used, isIn, twins};
+ghost use Rattle.rules.specs.Blocks.{familyOf, plain, square, paired, zeros, formed, sized, sizedLettered, sizedDirected, small, used, isIn, twins, fenced};
 ghost use mathlib.Core.List.{_++_};
 ghost use Rattle.rules.specs.Answers.{written};
 ghost use Rattle.rules.specs.Refusals.Answer.{accepted};
@@ -132,6 +132,13 @@ pub fn is_square(family: u8) -> bool
     family == 5
 }
 
+// Whether the family is 7: it stays at y ≥ 0.
+pub fn is_fenced(family: u8) -> bool
+    ensures { λ r. ⌜ r ≡ fenced family ⌝ }
+{
+    family == 7
+}
+
 // Whether the family is 6 or 7: its steps are pairs, written as digits.
 pub fn is_paired(family: u8) -> bool
     ensures { λ r. ⌜ r ≡ paired family ⌝ }
@@ -139,7 +146,7 @@ pub fn is_paired(family: u8) -> bool
     if family == 6 {
         return true;
     }
-    family == 7
+    is_fenced(family)
 }
 
 // Whether every byte is zero.

@@ -14,7 +14,7 @@ use Prim.Native.Nat.{ℕ, suc, _+_, _*_, _-_, _≤_, _<_}
 use native.Mathlib.Decide.{decLt}
 use native.Mathlib.Nat.{not-suc-le-zero}
 use native.Mathlib.Omega.{arith}
-use lib.Dec.{T, leb, eqb, le→leb}
+use lib.Dec.{T, leb, le→leb}
 use lib.IntN.{ℤ, pos, negsuc}
 use lib.ListN.{getD, set, replicate, length-set}
 use lib.Seq.{getD-set-other}
@@ -28,7 +28,7 @@ use Rattle.rules.specs.Points.{Is, leℤ}
 use Rattle.rules.specs.Jobs as rules
 use Rattle.rules.specs.Jobs.{Pair, pairAt, endOf}
 use Rattle.rules.specs.Jobs.Job.{directed}
-use Rattle.rules.specs.Blocks.{paired}
+use Rattle.rules.specs.Blocks.{paired, fenced}
 use Rattle.rules.specs.Valid.{Valid}
 use Rattle.rules.specs.Words.{wordOf}
 use Rattle.rules.specs.Counts.{countOf}
@@ -221,14 +221,14 @@ stands-ranged st q = go (directed-of st q)
     go (as-directed fenced e d) = ranged d
 
 -- family 7 has the fence of slope 3, family 6 none
-pub shaped-by : (j : Job) (s : Shape) → paired (j .family) ≡ true → {f : Wall} → f ≡ fence (pick (eqb (j .family) 7) 3 0) 0 → Chosen j f s → ShapedFor j s
+pub shaped-by : (j : Job) (s : Shape) → paired (j .family) ≡ true → {f : Wall} → f ≡ fence (pick (fenced (j .family)) 3 0) 0 → Chosen j f s → ShapedFor j s
 shaped-by j s q o w J st = go J (directed-of st q)
   where
-    seven : (fenced : Bool) → eqb (pick fenced 7 6) 7 ≡ fenced
+    seven : (t : Bool) → fenced (pick t 7 6) ≡ t
     seven true = refl
     seven false = refl
 
     go : (J : rules.Job) → AsDirected j J → Shaped J s
-    go _ (as-directed fenced {m} {pairs} e d) =
-        let k : eqb (j .family) 7 ≡ fenced = ap (λ (n : ℕ). eqb n 7) e ∙ seven fenced in
-        directed-shaped j fenced m pairs d s (subst (λ (v : Wall). Chosen j v s) (o ∙ ap (λ (t : Bool). fence (pick t 3 0) 0) k) w)
+    go _ (as-directed t {m} {pairs} e d) =
+        let k : fenced (j .family) ≡ t = ap fenced e ∙ seven t in
+        directed-shaped j t m pairs d s (subst (λ (v : Wall). Chosen j v s) (o ∙ ap (λ (t : Bool). fence (pick t 3 0) 0) k) w)

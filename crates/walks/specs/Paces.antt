@@ -22,7 +22,7 @@ use Rattle.rules.specs.Jobs as rules
 use Rattle.rules.specs.Jobs.{stepsOf, startOf, endOf, stays, isDirected}
 use Rattle.rules.specs.Valid.{place, at}
 use Rattle.rules.specs.Places.{placeOf}
-use Rattle.rules.specs.Blocks.{paired}
+use Rattle.rules.specs.Blocks.{paired, fenced}
 use Rattle.letters.specs.Letters as letters
 use Rattle.job.specs.declared.Job.{Job}
 use Rattle.walks.specs.declared.paces.Paces.{Paces}
@@ -50,7 +50,7 @@ pacesOf j =
     let family = j .family in
     let n = j .n in
     pick (paired family)
-    (record { lettered = false; square = false; fenced = eqb family 7; n = n; m = j .m; k = j .k; a = j .a; b = j .b })
+    (record { lettered = false; square = false; fenced = fenced family; n = n; m = j .m; k = j .k; a = j .a; b = j .b })
     (pick (eqb family 1) (letteredPaces false n (j .m) 2 1)
     (pick (eqb family 3) (letteredPaces false n (j .m) 3 1)
     (pick (eqb family 2) (letteredPaces true n (n + 128) 2 1)

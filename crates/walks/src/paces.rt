@@ -53,7 +53,7 @@ pub(crate) fn paces_of(job: Job) -> Paces
         return Paces {
             lettered: false,
             square: false,
-            fenced: family == 7,
+            fenced: job::is_fenced(family),
             n,
             m,
             k: wide(job.k),

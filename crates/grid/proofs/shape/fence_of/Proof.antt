@@ -1,16 +1,18 @@
--- `grid::shape::fence_of` meets its contract: by family. Assumes nothing.
-use mathlib.Core.Path.{ap, sym}
-use borrow.Author.Tests.{eq-eqb, ne-eqb}
+-- `grid::shape::fence_of` meets its contract: by whether the family is fenced. Assumes nothing.
+use mathlib.Core.Path.{ap, sym, _∙_}
 use Rattle.howmany.specs.Choose.{pick}
 use Rattle.tables.specs.Form.{fence}
 use Rattle.grid.proofs.shape.fence_of.Statement.{statement}
 use Rattle.grid.proofs.shape.fence_of.Tie as tie
 
+is-fenced-requires : tie.Need-is-fenced-requires
+is-fenced-requires c κs = tt
+
 returns : tie.Need-returns
-returns c = sym (ap (λ t. fence (pick t 3 0) 0) (eq-eqb _ _ (c .if1 .taken)))
+returns c = ap (λ t. fence (pick t 3 0) 0) (sym (c .if1 .taken) ∙ c .before .is-fenced .ensures)
 
 returns-2 : tie.Need-returns-2
-returns-2 c = sym (ap (λ t. fence (pick t 3 0) 0) (ne-eqb _ _ (c .if1 .left)))
+returns-2 c = ap (λ t. fence (pick t 3 0) 0) (sym (c .if1 .left) ∙ c .before .is-fenced .ensures)
 
 pub fence-of-spec : {M : Type 1} → statement M
-fence-of-spec = tie.close (tie.spec returns returns-2)
+fence-of-spec = tie.close (tie.spec is-fenced-requires returns returns-2)

@@ -9,7 +9,7 @@ use Rattle.walks.proofs.paces.paces_of.Statement.{statement}
 use Rattle.walks.proofs.paces.paces_of.Tie as tie
 
 -- what `search` finds
-found : tie.Need-wide-requires × tie.Need-wide-requires-2 × tie.Need-is-paired-requires × tie.Need-wide-requires-3 ×
+found : tie.Need-wide-requires × tie.Need-wide-requires-2 × tie.Need-is-paired-requires × tie.Need-is-fenced-requires × tie.Need-wide-requires-3 ×
     tie.Need-lettered-paces-requires × tie.Need-lettered-paces-requires-2 × tie.Need-add-lettered-paces × tie.Need-lettered-paces-requires-3 ×
     tie.Need-add-lettered-paces-2 × tie.Need-lettered-paces-requires-4 × tie.Need-add-lettered-paces-3 × tie.Need-lettered-paces-requires-5
 found = search needs
@@ -17,7 +17,7 @@ found = search needs
 returns : tie.Need-returns
 unfolding pacesOf
 returns c =
-    rw (c .before .before .before .before .before .before .wide .ensures, c .before .before .before .before .before .wide2 .ensures, c .wide3 .ensures, sym (c .before .before .before .before .is-paired .ensures) ∙ c .before .before .before .if1 .taken) refl
+    rw (c .before .before .before .before .before .before .before .wide .ensures, c .before .before .before .before .before .before .wide2 .ensures, c .wide3 .ensures, c .before .is-fenced .ensures, sym (c .before .before .before .before .before .is-paired .ensures) ∙ c .before .before .before .before .if1 .taken) refl
 
 -- the family has letters
 unpaired : (c : tie.Else1) → paired (c .before .before .before .before .args .job .family) ≡ false
@@ -59,5 +59,5 @@ returns-6 c =
 
 pub paces-of-spec : {M : Type 1} → statement M
 paces-of-spec =
-    tie.close (tie.spec (found .0) (found .1) (found .2) (found .3) returns (found .4) returns-2 (found .5) returns-3 (found .6) (found .7) returns-4
-    (found .8) (found .9) returns-5 (found .10) (found .11) returns-6)
+    tie.close (tie.spec (found .0) (found .1) (found .2) (found .3) (found .4) returns (found .5) returns-2 (found .6) returns-3 (found .7) (found .8)
+    returns-4 (found .9) (found .10) returns-5 (found .11) (found .12) returns-6)
