@@ -6,6 +6,7 @@
 --   Twenty b       b has the length of a block; Pairs b k: and k used pairs
 --   heldBy b       the job that is held of a block: its bytes, m and each b raised
 --   none           the job beside a refusal
+--   refusedBy, makes    the answer of a refusal; that of what document 01 answers
 --   madeOf b       the answer: the job, or the refusal's number with no job
 use mathlib.Core.Path.{_≡_}
 use mathlib.Core.List.{List, [], _∷_}

@@ -5,6 +5,7 @@
 --   Lined, LinedAs w r s e  an answer, and both lent slices after it; that r, s and e are those
 --   lined a steps ends      the edges written to the front of steps, their ends to the front of ends; refused, nothing is written
 --   Lines, WroteAs w r s e  the same, or that there was no room to begin with
+--   wroteSays               what each case of Wrote says
 --   lines a ns steps ends   what is told of the edges of the numbers ns: only where there is room for any
 --   builtOf w               the answer, where there was room
 --   lesser a b              whichever is less

@@ -1,6 +1,7 @@
 -- The cells of the table: what they say, where they stand, and a run of them summed.
 --
 --   capOf w                  the answer for a number: itself, or Over where it needs more than 64 bits
+--   capBy                    the same, by whether it fits
 --   cellOf v o               what a cell of value v and flag o says: Over where the flag is not 0
 --   cellAt val ov j          what cell j of a table with flags says
 --   Put                      a table after cell i was made to say r

@@ -14,6 +14,7 @@
 --   Spans                where those of the columns from 1 to before n begin, and end; there are no more than 32
 --   Cells T at           the columns before x are right, as far as they can matter; at is what a cell says, T how it says a number
 --   Sheet T at           the same, and every cell of the columns from x on says 0
+--   itself               a number as a table of values says it
 --   Table                a sheet of values
 --   Flagged              a sheet of values and flags
 --   Small                eight numbers of the columns before x can be summed

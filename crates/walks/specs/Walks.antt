@@ -1,6 +1,7 @@
 -- What the walker answers of a block and of strings.
 --
 --   walkOf a e        where e goes wrong as an edge of the job of a, if it does; none where a is a refusal
+--   firstOf p w       the place p of a first string, or what is wrong behind it
 --   firstWrong J es   the first of the strings es that is no valid edge of the job J, and its place
 --   checkOf a es      the same of the job of a; none where a is a refusal
 --   walkedSays, checkedSays    what each case of an answer says

@@ -13,23 +13,9 @@ use Rattle.rows.proofs.build_all.Tie as tie
 knows : (c : tie.After-known-of) {r : Known} → c .known-of .result ≡ r → KnownIs (c .before .before .before .before .before .before .args .block .now) (c .before .has-room .result) r
 knows c e = subst (KnownIs _ _) e (c .known-of .ensures)
 
-has-room-requires : tie.Need-has-room-requires
-has-room-requires c κs = search needs
-
-known-of-requires : tie.Need-known-of-requires
-known-of-requires c κs = search needs
-
-enum-told : tie.Need-enum-told
-enum-told c = search needs
-
-enum-told-2 : tie.Need-enum-told-2
-enum-told-2 c = search needs
-
-enum-known-r : tie.Need-enum-known-r
-enum-known-r c = search needs
-
-enum-known-c : tie.Need-enum-known-c
-enum-known-c c = search needs
+-- what `search` finds
+found : tie.Need-has-room-requires × tie.Need-known-of-requires × tie.Need-enum-told × tie.Need-enum-told-2 × tie.Need-enum-known-r × tie.Need-enum-known-c
+found = search needs
 
 spell-edges-requires : tie.Need-spell-edges-requires
 spell-edges-requires c κs =
@@ -60,5 +46,5 @@ pub build-all-spec : {M : Type 1} → statement M
 build-all-spec =
     tie.close
     (tie.spec
-    has-room-requires known-of-requires enum-told enum-told-2 enum-known-r enum-known-c spell-edges-requires returns returns-2 returns-3
+    (found .0) (found .1) (found .2) (found .3) (found .4) (found .5) spell-edges-requires returns returns-2 returns-3
     same-length same-length-2 returns-4)

@@ -16,20 +16,9 @@ use Rattle.rows.proofs.count.Tie as tie
 knows : (c : tie.After-known-of) {r : Known} → c .known-of .result ≡ r → KnownIs (c .before .before .args .block .now) true r
 knows c e = subst (KnownIs _ true) e (c .known-of .ensures)
 
-known-of-requires : tie.Need-known-of-requires
-known-of-requires c κs = search needs
-
-enum-told : tie.Need-enum-told
-enum-told c = search needs
-
-enum-told-2 : tie.Need-enum-told-2
-enum-told-2 c = search needs
-
-enum-known-r : tie.Need-enum-known-r
-enum-known-r c = search needs
-
-enum-known-c : tie.Need-enum-known-c
-enum-known-c c = search needs
+-- what `search` finds
+found : tie.Need-known-of-requires × tie.Need-enum-told × tie.Need-enum-told-2 × tie.Need-enum-known-r × tie.Need-enum-known-c
+found = search needs
 
 count-of-requires : tie.Need-count-of-requires
 count-of-requires c κs = knows (c .before .before .before) (c .before .c .given .1) .0
@@ -50,4 +39,4 @@ pub count-spec : {M : Type 1} → statement M
 count-spec =
     tie.close
     (tie.spec
-    known-of-requires enum-told enum-told-2 enum-known-r enum-known-c count-of-requires returns returns-2 returns-3 returns-4)
+    (found .0) (found .1) (found .2) (found .3) (found .4) count-of-requires returns returns-2 returns-3 returns-4)

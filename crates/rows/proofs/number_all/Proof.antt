@@ -16,20 +16,9 @@ knows : (c : tie.After-known-of) {r : Known} → c .known-of .result ≡ r →
     KnownIs (args .block .now) (leb (length (args .ends .now)) (length (args .numbers .now))) r
 knows c e = subst (KnownIs _ _) e (c .known-of .ensures)
 
-known-of-requires : tie.Need-known-of-requires
-known-of-requires c κs = search needs
-
-enum-told : tie.Need-enum-told
-enum-told c = search needs
-
-enum-told-2 : tie.Need-enum-told-2
-enum-told-2 c = search needs
-
-enum-known-r : tie.Need-enum-known-r
-enum-known-r c = search needs
-
-enum-known-c : tie.Need-enum-known-c
-enum-known-c c = search needs
+-- what `search` finds
+found : tie.Need-known-of-requires × tie.Need-enum-told × tie.Need-enum-told-2 × tie.Need-enum-known-r × tie.Need-enum-known-c
+found = search needs
 
 number-edges-requires : tie.Need-number-edges-requires
 number-edges-requires c κs =
@@ -55,5 +44,5 @@ pub number-all-spec : {M : Type 1} → statement M
 number-all-spec =
     tie.close
     (tie.spec
-    known-of-requires enum-told enum-told-2 enum-known-r enum-known-c number-edges-requires returns returns-2 returns-3 same-length
+    (found .0) (found .1) (found .2) (found .3) (found .4) number-edges-requires returns returns-2 returns-3 same-length
     returns-4)

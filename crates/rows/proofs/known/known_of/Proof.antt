@@ -11,11 +11,9 @@ use Rattle.rows.proofs.known.known_of.Tie as tie
 own : (c : tie.Else1) → plain (familyOf (c .before .before .before .before .args .block .now)) ≡ true
 own c = mine-by plain (c .before .before .before .before .args .block .now) (c .before .before .family-of .ensures) (c .before .is-plain .ensures) (not-false _ (c .if1 .left))
 
-family-of-requires : tie.Need-family-of-requires
-family-of-requires c κs = search needs
-
-is-plain-requires : tie.Need-is-plain-requires
-is-plain-requires c κs = search needs
+-- what `search` finds
+found : tie.Need-family-of-requires × tie.Need-is-plain-requires
+found = search needs
 
 returns : tie.Need-returns
 returns c = mine-by plain (c .before .before .before .before .args .block .now) (c .before .before .family-of .ensures) (c .before .is-plain .ensures) (not-true _ (c .if1 .taken))
@@ -30,4 +28,4 @@ returns-3 : tie.Need-returns-3
 returns-3 c = rw (not-false (c .before .before .before .before .before .before .args .room) (c .before .if2 .left)) (c .made-of .ensures)
 
 pub known-of-spec : {M : Type 1} → statement M
-known-of-spec = tie.close (tie.spec family-of-requires is-plain-requires returns returns-2 made-of-requires returns-3)
+known-of-spec = tie.close (tie.spec (found .0) (found .1) returns returns-2 made-of-requires returns-3)

@@ -28,23 +28,12 @@ rank c e =
 loop-holds : tie.Need-loop-holds Inv-loop μ-loop
 loop-holds c = ranking-none _ _ _ _ _ _ (c .before .before .before .before .pre .1)
 
-mul-end : tie.Need-mul-end Inv-loop μ-loop
-mul-end c = search needs
-
-shared-slice-read-end : tie.Need-shared-slice-read-end Inv-loop μ-loop
-shared-slice-read-end c = search needs
-
-part-requires : tie.Need-part-requires Inv-loop μ-loop
-part-requires c κs = search needs
+-- what `search` finds
+found : tie.Need-mul-end Inv-loop μ-loop × tie.Need-shared-slice-read-end Inv-loop μ-loop × tie.Need-part-requires Inv-loop μ-loop × tie.Need-enum-known-r Inv-loop μ-loop × tie.Need-enum-told Inv-loop μ-loop × tie.Need-mul-numbers Inv-loop μ-loop × tie.Need-add-i Inv-loop μ-loop × tie.Need-loop-less Inv-loop μ-loop
+found = search needs
 
 read-requires : tie.Need-read-requires Inv-loop μ-loop
 read-requires c κs = c .before .before .before .before .before .before .before .before .pre .0
-
-enum-known-r : tie.Need-enum-known-r Inv-loop μ-loop
-enum-known-r c = search needs
-
-enum-told : tie.Need-enum-told Inv-loop μ-loop
-enum-told c = search needs
 
 same-length : tie.Need-same-length Inv-loop μ-loop
 same-length c = c .before .before .before .before .before .before .loop .inv .as-many
@@ -52,17 +41,8 @@ same-length c = c .before .before .before .before .before .before .loop .inv .as
 returns : tie.Need-returns Inv-loop μ-loop
 returns c = ranking-stop _ _ _ _ _ _ _ _ _ (c .before .before .before .before .before .before .loop .inv) (c .before .before .before .before .before .loop-test .taken) (rank (c .before .before) (c .enum-told .given .1))
 
-mul-numbers : tie.Need-mul-numbers Inv-loop μ-loop
-mul-numbers c = search needs
-
 slice-write-numbers : tie.Need-slice-write-numbers Inv-loop μ-loop
 slice-write-numbers c = ranking-room _ _ _ _ _ _ _ _ _ (c .before .before .before .before .before .before .before .loop .inv) (c .before .before .before .before .before .before .loop-test .taken)
-
-add-i : tie.Need-add-i Inv-loop μ-loop
-add-i c = search needs
-
-loop-less : tie.Need-loop-less Inv-loop μ-loop
-loop-less c = search needs
 
 loop-again : tie.Need-loop-again Inv-loop μ-loop
 loop-again c =
@@ -79,5 +59,5 @@ pub number-each-spec : {M : Type 1} → statement M
 number-each-spec =
     tie.close
     (tie.spec
-    Inv-loop μ-loop loop-holds mul-end shared-slice-read-end part-requires read-requires enum-known-r enum-told same-length returns
-    mul-numbers slice-write-numbers add-i loop-less loop-again same-length-2 returns-2)
+    Inv-loop μ-loop loop-holds (found .0) (found .1) (found .2) read-requires (found .3) (found .4) same-length returns
+    (found .5) slice-write-numbers (found .6) (found .7) loop-again same-length-2 returns-2)

@@ -14,15 +14,13 @@ use Rattle.rows.proofs.numbering.number_edges.Tie as tie
 low : (c : tie.Else1) → plainPlan (c .before .before .before .before .before .args .c) .ey ≤ 33
 low c = omega (arith, c .if1 .left, c .before .lesser .ensures)
 
-lesser-requires : tie.Need-lesser-requires
-lesser-requires c κs = search needs
+-- what `search` finds
+found : tie.Need-lesser-requires × tie.Need-cells-of-requires
+found = search needs
 
 returns : tie.Need-returns
 returns c =
     numbers-over _ _ _ (plain-over (c .before .before .before .before .before .args .c) (c .before .lesser .ensures) (c .if1 .taken))
-
-cells-of-requires : tie.Need-cells-of-requires
-cells-of-requires c κs = search needs
 
 number-small-requires : tie.Need-number-small-requires
 number-small-requires c κs =
@@ -58,4 +56,4 @@ pub number-edges-spec : {M : Type 1} → statement M
 number-edges-spec =
     tie.close
     (tie.spec
-    lesser-requires returns cells-of-requires number-small-requires same-length returns-2 number-large-requires same-length-2 returns-3)
+    (found .0) returns (found .1) number-small-requires same-length returns-2 number-large-requires same-length-2 returns-3)

@@ -4,8 +4,9 @@ use borrow.Author.Needs.{needs}
 use Rattle.rows.proofs.numbering.number_small.Statement.{statement}
 use Rattle.rows.proofs.numbering.number_small.Tie as tie
 
-slice-aggregate-number-in : tie.Need-slice-aggregate-number-in
-slice-aggregate-number-in c = search needs
+-- what `search` finds
+found : tie.Need-slice-aggregate-number-in × tie.Need-slice-aggregate-number-in-2 × tie.Need-slice-aggregate-number-in-3
+found = search needs
 
 number-in-requires : tie.Need-number-in-requires
 number-in-requires c κs =
@@ -17,9 +18,6 @@ same-length c = search needs
 returns : tie.Need-returns
 returns c = search needs
 
-slice-aggregate-number-in-2 : tie.Need-slice-aggregate-number-in-2
-slice-aggregate-number-in-2 c = search needs
-
 number-in-requires-2 : tie.Need-number-in-requires-2
 number-in-requires-2 c κs =
     (blank-at (c .before .before .before .before .before .before .before .pre .0) 384 (c .before .before .if2 .taken), c .before .before .before .before .before .before .before .pre .2)
@@ -29,9 +27,6 @@ same-length-2 c = search needs
 
 returns-2 : tie.Need-returns-2
 returns-2 c = search needs
-
-slice-aggregate-number-in-3 : tie.Need-slice-aggregate-number-in-3
-slice-aggregate-number-in-3 c = search needs
 
 number-in-requires-3 : tie.Need-number-in-requires-3
 number-in-requires-3 c κs =
@@ -47,5 +42,5 @@ pub number-small-spec : {M : Type 1} → statement M
 number-small-spec =
     tie.close
     (tie.spec
-    slice-aggregate-number-in number-in-requires same-length returns slice-aggregate-number-in-2 number-in-requires-2 same-length-2
-    returns-2 slice-aggregate-number-in-3 number-in-requires-3 same-length-3 returns-3)
+    (found .0) number-in-requires same-length returns (found .1) number-in-requires-2 same-length-2
+    returns-2 (found .2) number-in-requires-3 same-length-3 returns-3)

@@ -5,14 +5,9 @@ use borrow.Author.Needs.{needs}
 use Rattle.rows.proofs.plain.cells_of.Statement.{statement}
 use Rattle.rows.proofs.plain.cells_of.Tie as tie
 
-add-result : tie.Need-add-result
-add-result c = search needs
-
-add-result-2 : tie.Need-add-result-2
-add-result-2 c = search needs
-
-lesser-requires : tie.Need-lesser-requires
-lesser-requires c κs = search needs
+-- what `search` finds
+found : tie.Need-add-result × tie.Need-add-result-2 × tie.Need-lesser-requires
+found = search needs
 
 add-result-3 : tie.Need-add-result-3
 add-result-3 c = omega (arith, cells-at (c .before .before .args .c) (c .before .before .pre) (c .lesser .ensures) .0)
@@ -25,4 +20,4 @@ returns c = cells-at (c .before .before .args .c) (c .before .before .pre) (c .l
 
 pub cells-of-spec : {M : Type 1} → statement M
 cells-of-spec =
-    tie.close (tie.spec add-result add-result-2 lesser-requires add-result-3 mul-result returns)
+    tie.close (tie.spec (found .0) (found .1) (found .2) add-result-3 mul-result returns)

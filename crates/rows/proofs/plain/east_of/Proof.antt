@@ -5,21 +5,16 @@ use borrow.Author.Needs.{needs}
 use Rattle.rows.proofs.plain.east_of.Statement.{statement}
 use Rattle.rows.proofs.plain.east_of.Tie as tie
 
-stride-of-requires : tie.Need-stride-of-requires
-stride-of-requires c κs = search needs
-
-rise-of-requires : tie.Need-rise-of-requires
-rise-of-requires c κs = search needs
+-- what `search` finds
+found : tie.Need-stride-of-requires × tie.Need-rise-of-requires × tie.Need-add-result
+found = search needs
 
 sub-result : tie.Need-sub-result
 sub-result c = east-up (c .before .before .args .c) (c .rise-of .ensures) .0
-
-add-result : tie.Need-add-result
-add-result c = search needs
 
 returns : tie.Need-returns
 returns c = omega (arith, c .before .stride-of .ensures, east-up (c .before .before .args .c) (c .rise-of .ensures) .1)
 
 pub east-of-spec : {M : Type 1} → statement M
 east-of-spec =
-    tie.close (tie.spec stride-of-requires rise-of-requires sub-result add-result returns)
+    tie.close (tie.spec (found .0) (found .1) sub-result (found .2) returns)

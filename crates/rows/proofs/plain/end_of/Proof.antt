@@ -6,23 +6,12 @@ use borrow.Author.Needs.{needs}
 use Rattle.rows.proofs.plain.end_of.Statement.{statement}
 use Rattle.rows.proofs.plain.end_of.Tie as tie
 
-add-result : tie.Need-add-result
-add-result c = search needs
-
-add-result-2 : tie.Need-add-result-2
-add-result-2 c = search needs
-
-stride-of-requires : tie.Need-stride-of-requires
-stride-of-requires c κs = search needs
+-- what `search` finds
+found : tie.Need-add-result × tie.Need-add-result-2 × tie.Need-stride-of-requires × tie.Need-lesser-requires × tie.Need-add-result-3
+found = search needs
 
 mul-result : tie.Need-mul-result
 mul-result c = omega (arith, end-at (c .before .before .args .c) (c .before .before .pre) (c .stride-of .ensures) refl .0)
-
-lesser-requires : tie.Need-lesser-requires
-lesser-requires c κs = search needs
-
-add-result-3 : tie.Need-add-result-3
-add-result-3 c = search needs
 
 add-result-4 : tie.Need-add-result-4
 add-result-4 c =
@@ -33,4 +22,4 @@ returns c =
     end-at (c .before .before .before .args .c) (c .before .before .before .pre) (c .before .stride-of .ensures) (c .lesser .ensures) .2
 
 pub end-of-spec : {M : Type 1} → statement M
-end-of-spec = tie.close (tie.spec add-result add-result-2 stride-of-requires mul-result lesser-requires add-result-3 add-result-4 returns)
+end-of-spec = tie.close (tie.spec (found .0) (found .1) (found .2) mul-result (found .3) (found .4) add-result-4 returns)

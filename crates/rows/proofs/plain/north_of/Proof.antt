@@ -5,11 +5,9 @@ use borrow.Author.Needs.{needs}
 use Rattle.rows.proofs.plain.north_of.Statement.{statement}
 use Rattle.rows.proofs.plain.north_of.Tie as tie
 
-stride-of-requires : tie.Need-stride-of-requires
-stride-of-requires c κs = search needs
-
-rise-of-requires : tie.Need-rise-of-requires
-rise-of-requires c κs = search needs
+-- what `search` finds
+found : tie.Need-stride-of-requires × tie.Need-rise-of-requires
+found = search needs
 
 add-result : tie.Need-add-result
 add-result c =
@@ -19,4 +17,4 @@ returns : tie.Need-returns
 returns c = search needs
 
 pub north-of-spec : {M : Type 1} → statement M
-north-of-spec = tie.close (tie.spec stride-of-requires rise-of-requires add-result returns)
+north-of-spec = tie.close (tie.spec (found .0) (found .1) add-result returns)

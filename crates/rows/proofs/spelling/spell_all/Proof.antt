@@ -20,11 +20,9 @@ abbrev μ-loop : tie.MeasureT-loop
 loop-holds : tie.Need-loop-holds Inv-loop μ-loop
 loop-holds c = lining-none _ _ _ _ (c .before .before .before .before .pre .2)
 
-mul-spell-front : tie.Need-mul-spell-front Inv-loop μ-loop
-mul-spell-front c = search needs
-
-shared-slice-read-spell-front : tie.Need-shared-slice-read-spell-front Inv-loop μ-loop
-shared-slice-read-spell-front c = search needs
+-- what `search` finds
+found : tie.Need-mul-spell-front Inv-loop μ-loop × tie.Need-shared-slice-read-spell-front Inv-loop μ-loop × tie.Need-mul-ends Inv-loop μ-loop × tie.Need-add-i Inv-loop μ-loop
+found = search needs
 
 sub-spell-front : tie.Need-sub-spell-front Inv-loop μ-loop
 sub-spell-front c = omega (arith, lining-room _ _ _ _ _ _ _ _ (c .before .before .loop .inv) (c .before .loop-test .taken))
@@ -43,15 +41,9 @@ add-at : tie.Need-add-at Inv-loop μ-loop
 add-at c =
     let h = lining-room _ _ _ _ _ _ _ _ (c .before .before .before .before .before .before .loop .inv) (c .before .before .before .before .before .loop-test .taken) in let w = c .before .before .spell-front .ensures .short in search needs
 
-mul-ends : tie.Need-mul-ends Inv-loop μ-loop
-mul-ends c = search needs
-
 slice-write-ends : tie.Need-slice-write-ends Inv-loop μ-loop
 slice-write-ends c =
     omega (arith, c .before .before .before .before .before .before .loop .inv .as-many, c .before .before .before .before .before .before .before .before .before .before .before .pre .2 .for-ends)
-
-add-i : tie.Need-add-i Inv-loop μ-loop
-add-i c = search needs
 
 loop-less : tie.Need-loop-less Inv-loop μ-loop
 loop-less c = omega arith
@@ -73,5 +65,5 @@ pub spell-all-spec : {M : Type 1} → statement M
 spell-all-spec =
     tie.close
     (tie.spec
-    Inv-loop μ-loop loop-holds mul-spell-front shared-slice-read-spell-front sub-spell-front part-spell-front-start part-spell-front-end
-    spell-front-requires add-at mul-ends slice-write-ends add-i loop-less loop-again same-length same-length-2 returns)
+    Inv-loop μ-loop loop-holds (found .0) (found .1) sub-spell-front part-spell-front-start part-spell-front-end
+    spell-front-requires add-at (found .2) slice-write-ends (found .3) loop-less loop-again same-length same-length-2 returns)

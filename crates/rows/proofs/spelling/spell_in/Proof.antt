@@ -26,11 +26,9 @@ below c = below-told _ _ _ _ (counted (c .before .before) .0) (c .all-below .ens
 fill-rows-requires : tie.Need-fill-rows-requires
 fill-rows-requires c κs = c .before .before .before .before .before .pre .0
 
-enum-known-w : tie.Need-enum-known-w
-enum-known-w c = search needs
-
-enum-told : tie.Need-enum-told
-enum-told c = search needs
+-- what `search` finds
+found : tie.Need-enum-known-w × tie.Need-enum-told × tie.Need-all-below-requires
+found = search needs
 
 same-length : tie.Need-same-length
 same-length c = search needs
@@ -38,9 +36,6 @@ same-length c = search needs
 returns : tie.Need-returns
 returns c =
     for-over true (plainPlan (c .before .before .before .before .before .before .before .before .before .before .args .c)) _ _ _ _ _ (filled-over (c .before .before .before .before .fill-rows .ensures) (c .enum-told .given .1))
-
-all-below-requires : tie.Need-all-below-requires
-all-below-requires c κs = search needs
 
 same-length-2 : tie.Need-same-length-2
 same-length-2 c = search needs
@@ -74,5 +69,5 @@ pub spell-in-spec : {M : Type 1} → statement M
 spell-in-spec =
     tie.close
     (tie.spec
-    fill-rows-requires enum-known-w enum-told same-length returns all-below-requires same-length-2 returns-2 spell-all-requires
+    fill-rows-requires (found .0) (found .1) same-length returns (found .2) same-length-2 returns-2 spell-all-requires
     same-length-3 same-length-4 same-length-5 returns-3)

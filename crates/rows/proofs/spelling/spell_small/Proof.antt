@@ -4,8 +4,9 @@ use borrow.Author.Needs.{needs}
 use Rattle.rows.proofs.spelling.spell_small.Statement.{statement}
 use Rattle.rows.proofs.spelling.spell_small.Tie as tie
 
-slice-aggregate-spell-in : tie.Need-slice-aggregate-spell-in
-slice-aggregate-spell-in c = search needs
+-- what `search` finds
+found : tie.Need-slice-aggregate-spell-in × tie.Need-slice-aggregate-spell-in-2 × tie.Need-slice-aggregate-spell-in-3
+found = search needs
 
 spell-in-requires : tie.Need-spell-in-requires
 spell-in-requires c κs =
@@ -20,9 +21,6 @@ same-length-2 c = search needs
 returns : tie.Need-returns
 returns c = search needs
 
-slice-aggregate-spell-in-2 : tie.Need-slice-aggregate-spell-in-2
-slice-aggregate-spell-in-2 c = search needs
-
 spell-in-requires-2 : tie.Need-spell-in-requires-2
 spell-in-requires-2 c κs =
     (blank-at (c .before .before .before .before .before .before .before .before .pre .0) 384 (c .before .before .before .if2 .taken), c .before .before .before .before .before .before .before .before .pre .2)
@@ -35,9 +33,6 @@ same-length-4 c = search needs
 
 returns-2 : tie.Need-returns-2
 returns-2 c = search needs
-
-slice-aggregate-spell-in-3 : tie.Need-slice-aggregate-spell-in-3
-slice-aggregate-spell-in-3 c = search needs
 
 spell-in-requires-3 : tie.Need-spell-in-requires-3
 spell-in-requires-3 c κs =
@@ -56,5 +51,5 @@ pub spell-small-spec : {M : Type 1} → statement M
 spell-small-spec =
     tie.close
     (tie.spec
-    slice-aggregate-spell-in spell-in-requires same-length same-length-2 returns slice-aggregate-spell-in-2 spell-in-requires-2
-    same-length-3 same-length-4 returns-2 slice-aggregate-spell-in-3 spell-in-requires-3 same-length-5 same-length-6 returns-3)
+    (found .0) spell-in-requires same-length same-length-2 returns (found .1) spell-in-requires-2
+    same-length-3 same-length-4 returns-2 (found .2) spell-in-requires-3 same-length-5 same-length-6 returns-3)

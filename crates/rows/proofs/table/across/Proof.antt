@@ -4,17 +4,9 @@ use borrow.Author.Needs.{needs}
 use Rattle.rows.proofs.table.across.Statement.{statement}
 use Rattle.rows.proofs.table.across.Tie as tie
 
-sub-result : tie.Need-sub-result
-sub-result c = search needs
-
-sub-result-2 : tie.Need-sub-result-2
-sub-result-2 c = search needs
-
-mul-result : tie.Need-mul-result
-mul-result c = search needs
-
-shared-slice-read-result : tie.Need-shared-slice-read-result
-shared-slice-read-result c = search needs
+-- what `search` finds
+found : tie.Need-sub-result × tie.Need-sub-result-2 × tie.Need-mul-result × tie.Need-shared-slice-read-result
+found = search needs
 
 returns : tie.Need-returns
 returns c = rw (c .before .if1 .taken) refl
@@ -23,4 +15,4 @@ returns-2 : tie.Need-returns-2
 returns-2 c = rw (c .if1 .left) refl
 
 pub across-spec : {M : Type 1} → statement M
-across-spec = tie.close (tie.spec sub-result sub-result-2 mul-result shared-slice-read-result returns returns-2)
+across-spec = tie.close (tie.spec (found .0) (found .1) (found .2) (found .3) returns returns-2)

@@ -95,8 +95,9 @@ slice-read-a c = omega (arith, filling-in (turn (c .before)))
 across-requires : tie.Need-across-requires Inv-loop μ-loop
 across-requires c κs = (filling-far (turn (c .before .before)), omega (arith, filling-in (turn (c .before .before))))
 
-wrapping-add-u64-requires : tie.Need-wrapping-add-u64-requires Inv-loop μ-loop
-wrapping-add-u64-requires c κs = search needs
+-- what `search` finds
+found : tie.Need-wrapping-add-u64-requires Inv-loop μ-loop × tie.Need-wrapping-add-u64-requires-2 Inv-loop μ-loop
+found = search needs
 
 same-length : tie.Need-same-length Inv-loop μ-loop
 same-length c = simp length-set at (c .before .before .before .before .before .before .loop .inv .0)
@@ -106,9 +107,6 @@ returns c = record {
   rows = λ e. absurd (subst T (sym e) tt);
   over = λ e. over (c .before .before) (omega (arith, wrap-out (c .before .before .before .before .before .before .loop .inv .1) (c .before .wrapping-add-u64 .ensures) (c .if1 .taken)));
 }
-
-wrapping-add-u64-requires-2 : tie.Need-wrapping-add-u64-requires-2 Inv-loop μ-loop
-wrapping-add-u64-requires-2 c κs = search needs
 
 same-length-2 : tie.Need-same-length-2 Inv-loop μ-loop
 same-length-2 c = simp length-set at (c .before .before .before .before .before .before .before .before .loop .inv .0)
@@ -156,5 +154,5 @@ row-spec =
     tie.close
     (tie.spec
     Inv-loop μ-loop stride-of-requires add-n lesser-requires sub-n add-at mul-at add-at-2 add-at-3 first-requires mul-val slice-write-val
-    loop-holds sub-a mul-a slice-read-a across-requires wrapping-add-u64-requires same-length returns wrapping-add-u64-requires-2
+    loop-holds sub-a mul-a slice-read-a across-requires (found .0) same-length returns (found .1)
     same-length-2 returns-2 add-at-4 mul-val-2 slice-write-val-2 add-i loop-less loop-again same-length-3 returns-3)
