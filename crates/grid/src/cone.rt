@@ -1,7 +1,9 @@
 // The heights of a column that matter: behind the wall, and such that the end can still be reached.
 ghost use mathlib.Core.Path.{_≡_};
+ghost use mathlib.Core.Bool.{true};
 ghost use Prim.Native.Nat.{_+_, _*_, _≤_, _<_};
 ghost use lib.ListN.{length};
+ghost use Rattle.tables.specs.Form.{unwalled};
 ghost use Rattle.tables.specs.Table.{Bounded, Fence, From, Roof, To, Spans};
 use tables::Wall;
 
@@ -66,7 +68,7 @@ pub(crate) fn to_at(f: Wall, hi: usize, ey: usize, x: usize) -> usize
 }
 
 // The bounds of the columns 1 to ex, worked out once: from a formula the compiler would work them out anew for each of its tests.
-pub(crate) fn spans(
+fn walled_spans(
     starts: &mut [usize; 33],
     stops: &mut [usize; 33],
     f: Wall,
@@ -84,4 +86,55 @@ pub(crate) fn spans(
         stops[x] = to_at(f, hi, ey, x);
         x += 1;
     }
+}
+
+// The same where there is no wall: the compiler leaves out what it would take from a height.
+fn open_spans(starts: &mut [usize; 33], stops: &mut [usize; 33], hi: usize, ex: usize, ey: usize)
+    requires { ⌜ (hi ≤ 1000) × (ex ≤ 32) × (ey ≤ 1000) ⌝ }
+    requires { ⌜ (ex < length (now starts)) × (ex < length (now stops)) ⌝ }
+    ensures { λ _. ⌜ Spans unwalled hi ex ey (now (starts .exit)) (now (stops .exit)) (ex + 1) ⌝ }
+{
+    let mut x = 1;
+    while x <= ex {
+        let none = Wall {
+            roof: false,
+            slope: 0,
+            start: 0,
+        };
+        starts[x] = from_at(none, hi, ex, ey, x);
+        stops[x] = to_at(none, hi, ey, x);
+        x += 1;
+    }
+}
+
+fn is_open(f: Wall) -> bool
+    ensures { λ r. ⌜ (r ≡ true → f ≡ unwalled) ⌝ }
+{
+    if f.roof {
+        return false;
+    }
+    if f.slope != 0 {
+        return false;
+    }
+    f.start == 0
+}
+
+// The bounds of the columns 1 to ex.
+pub(crate) fn spans(
+    starts: &mut [usize; 33],
+    stops: &mut [usize; 33],
+    f: Wall,
+    hi: usize,
+    ex: usize,
+    ey: usize,
+)
+    requires { ⌜ Bounded f × (hi ≤ 1000) × (ex ≤ 32) × (ey ≤ 1000) ⌝ }
+    requires { ⌜ (ex < length (now starts)) × (ex < length (now stops)) ⌝ }
+    ensures { λ _. ⌜ Spans f hi ex ey (now (starts .exit)) (now (stops .exit)) (ex + 1) ⌝ }
+{
+    if is_open(f) {
+        open_spans(starts, stops, hi, ex, ey);
+        return;
+    }
+    walled_spans(starts, stops, f, hi, ex, ey);
 }

@@ -1,6 +1,7 @@
 -- The job maker's answer by the three tests. Assumes nothing.
 --
 --   whole-of, pairs-of                          a block that passes form has all its bytes; one that passes size has at most eight pairs
+--   no-twins                                    where there are no pairs, none is twice there
 --   made-form, made-size, made-twin, made-job    the answer for each way through the tests
 use Prim.Native.Nat.{ℕ, _+_, _*_, _≤_}
 use mathlib.Core.Path.{_≡_, refl, sym, _∙_}
@@ -19,7 +20,7 @@ use Rattle.rules.specs.Refusals.Answer.{accepted}
 use Rattle.rules.specs.Refusals.{refusalNumber}
 use Rattle.rules.specs.Blocks.{families, blockLength, paired, familyOf, nOf, mOf, kOf, zeros, formed, sized, sizedDirected, small, used, between, twins, jobIn, jobAnswer}
 use Rattle.rules.proofs.Families.{sized-paired}
-use Rattle.job.specs.Made.{Pairs, makes, madeOf, refusedBy, heldBy}
+use Rattle.job.specs.Made.{Pairs, makes, madeOf, refusedBy, acceptedBy}
 use Rattle.job.proofs.Blocks.{formed-is}
 
 pub whole-of : (b : List ℕ) → formed b ≡ true → length b ≡ blockLength
@@ -35,6 +36,10 @@ no-pairs b e l =
     let d : T (zeros (drop 3 b)) = rw l at c in
     let f : T (eqb (getD b 3 0) 0 && zeros (drop 4 b)) = rw (drop-cons b 3 0 (omega (arith, whole-of b e))) at d in
     eqb→eq (getD b 3 0) 0 (and-left (eqb (getD b 3 0) 0) (zeros (drop 4 b)) f)
+
+pub no-twins : (b : List ℕ) → formed b ≡ true → paired (familyOf b) ≡ false → twins (used b) ≡ false
+unfolding used twins
+no-twins b e l = rw (no-pairs b e l) refl
 
 few-pairs : (b : List ℕ) → sized b ≡ true → paired (familyOf b) ≡ true → kOf b ≤ 8
 unfolding sizedDirected
@@ -69,5 +74,5 @@ module _ (b : List ℕ) where
   unfolding refusalNumber
   made-twin e f g = sym (made-is ∙ simp (e, f, g))
 
-  pub made-job : formed b ≡ true → sized b ≡ true → twins (used b) ≡ false → record { refusal = 0; job = heldBy b } ≡ madeOf b
+  pub made-job : formed b ≡ true → sized b ≡ true → twins (used b) ≡ false → acceptedBy b ≡ madeOf b
   made-job e f g = sym (made-is ∙ simp (e, f, g))

@@ -6,7 +6,8 @@
 --   Twenty b       b has the length of a block; Pairs b k: and k used pairs
 --   heldBy b       the job that is held of a block: its bytes, m and each b raised
 --   none           the job beside a refusal
---   refusedBy, makes    the answer of a refusal; that of what document 01 answers
+--   refusedBy, acceptedBy    the answer of a refusal, and of a block that has none
+--   makes          that of what document 01 answers
 --   madeOf b       the answer: the job, or the refusal's number with no job
 use mathlib.Core.Path.{_≡_}
 use mathlib.Core.List.{List, [], _∷_}
@@ -57,8 +58,11 @@ none = record { family = 0; n = 0; m = 0; k = 0; a = replicate 8 0; b = replicat
 abbrev pub refusedBy : ℕ → Made
 refusedBy r = record { refusal = r; job = none }
 
+abbrev pub acceptedBy : List ℕ → Made
+acceptedBy b = record { refusal = 0; job = heldBy b }
+
 abbrev pub makes : Answer rules.Job → List ℕ → Made
-makes (accepted J) b = record { refusal = 0; job = heldBy b }
+makes (accepted J) b = acceptedBy b
 makes (refused r) b = refusedBy (refusalNumber r)
 
 unfoldable pub madeOf : List ℕ → Made

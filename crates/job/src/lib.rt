@@ -7,7 +7,7 @@ ghost use mathlib.Core.List.{_++_};
 ghost use Rattle.rules.specs.Answers.{written};
 ghost use Rattle.rules.specs.Refusals.Answer.{accepted};
 ghost use Rattle.job.specs.Replies.{BuiltAs};
-ghost use Rattle.job.specs.Made.{raised, pairOf, inRange, Twenty, Pairs, madeOf, heldBy, refusedBy};
+ghost use Rattle.job.specs.Made.{raised, pairOf, inRange, Twenty, Pairs, madeOf, heldBy, refusedBy, acceptedBy};
 
 // A step's letter: `N`, `E` and `D` of families 1 to 5, and `1`, the first digit of families 6 and 7.
 pub struct Step {
@@ -347,10 +347,20 @@ impl Job {
         if !is_sized(block) {
             return Job::refused(2);
         }
+        if !is_paired(block[0]) {
+            return Job::accepted(block); // no pair is used
+        }
         let k = wide(block[3]);
         if has_twins(block, k) {
             return Job::refused(3);
         }
+        Job::accepted(block)
+    }
+
+    fn accepted(block: &[u8]) -> Made
+        requires { ⌜ Twenty (now block) ⌝ }
+        ensures { λ r. ⌜ r ≡ acceptedBy (now (block .entry)) ⌝ }
+    {
         Made {
             refusal: 0,
             job: Job::held(block),
