@@ -1,8 +1,8 @@
--- `tables::table` counts up to the rows. Assumes nothing.
+-- `papers::table` counts up to the rows. Assumes nothing.
 use Prim.Native.Nat.{_≤_, _-_}
 use borrow.Author.Needs.{needs}
-use Rattle.examples.proofs.tables.table.Statement.{statement}
-use Rattle.examples.proofs.tables.table.Tie as tie
+use Rattle.examples.proofs.papers.table.Statement.{statement}
+use Rattle.examples.proofs.papers.table.Tie as tie
 
 abbrev Inv-loop : tie.InvT-loop
 Inv-loop block rows r₀ r = r ≤ rows
