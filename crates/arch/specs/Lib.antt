@@ -5,3 +5,4 @@ pub mod Reading
 pub mod ReadingBack
 pub mod Memo
 pub mod Calls
+pub mod Meets

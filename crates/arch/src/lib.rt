@@ -1,11 +1,5 @@
 // Families 2, 4 and 5 over one theory: d says whether the family has `D`, and an arch spans v + 1.
-ghost use lib.ListN.{length};
-ghost use Rattle.rules.specs.Blocks.{familyOf, square};
-ghost use Rattle.rules.specs.Answers.{countAnswer};
-ghost use Rattle.rules.specs.Questions.{edgesAnswer};
-ghost use Rattle.lines.specs.Lines.{cutFrom, lines};
-ghost use Rattle.lines.specs.Ranks.{ranks, ranksAnswer};
-ghost use Rattle.lines.specs.Mine.{CountsFor, RanksFor, LinesFor};
+ghost use Rattle.arch.specs.Meets.{CountMeets, NumberAllMeets, BuildAllMeets};
 
 mod builder; // builder.rt: the edge of a number
 mod counts; // counts.rt: how far the counts fit, and the counts of families 4 and 5
@@ -31,7 +25,7 @@ use output::write_edges;
 
 // "Counts": C, S or M.
 pub fn count(block: &[u8]) -> Counting
-    ensures { λ r. ⌜ CountsFor (square (familyOf (now (block .entry)))) (countAnswer (now (block .entry))) r ⌝ }
+    ensures { λ r. ⌜ CountMeets (now (block .entry)) r ⌝ }
 {
     match known_of(block, true) {
         Known::NotMine => Counting::NotMine,
@@ -57,7 +51,7 @@ pub fn number_all(
     ends: &[usize],
     numbers: &mut [u64],
 ) -> Numbering
-    ensures { λ r. ⌜ RanksFor (square (familyOf (now (block .entry)))) (ranks (ranksAnswer (now (block .entry)) (cutFrom from (now (ends .entry)) (now (bytes .entry)))) (length (now (ends .entry))) (now (numbers .entry))) r (now (numbers .entry)) (now (numbers .exit)) ⌝ }
+    ensures { λ r. ⌜ NumberAllMeets (now (block .entry)) (now (bytes .entry)) from (now (ends .entry)) (now (numbers .entry)) r (now (numbers .exit)) ⌝ }
 {
     match known_of(block, ends.len() <= numbers.len()) {
         Known::NotMine => Numbering::NotMine,
@@ -80,7 +74,7 @@ pub fn number_all(
 
 // "Order and numbers", families 2, 4, 5: the edges of a list of numbers, one after the other, and where each ends.
 pub fn build_all(block: &[u8], numbers: &[u64], steps: &mut [u8], ends: &mut [usize]) -> Building
-    ensures { λ r. ⌜ LinesFor (square (familyOf (now (block .entry)))) (lines (edgesAnswer (now (block .entry)) (now (numbers .entry))) (now (numbers .entry)) (now (steps .entry)) (now (ends .entry))) r (now (steps .entry)) (now (ends .entry)) (now (steps .exit)) (now (ends .exit)) ⌝ }
+    ensures { λ r. ⌜ BuildAllMeets (now (block .entry)) (now (numbers .entry)) (now (steps .entry)) (now (ends .entry)) r (now (steps .exit)) (now (ends .exit)) ⌝ }
 {
     match known_of(
         block,

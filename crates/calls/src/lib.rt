@@ -1,15 +1,10 @@
 // Count, width, number and build for all seven families: each call is answered by the crate that has the block's family. They are asked in
 // turn, `rows` first: of its smallest jobs a question more is the largest part.
 ghost use mathlib.Core.Path.{_≡_};
-ghost use Prim.Native.Nat.{ℕ};
-ghost use lib.ListN.{length};
 ghost use Rattle.rules.specs.Width.{widthOf};
-ghost use Rattle.rules.specs.Answers.{countAnswer, widthAnswer, numberAnswer, buildAnswer};
-ghost use Rattle.rules.specs.Questions.{edgesAnswer};
-ghost use Rattle.job.specs.Replies.{reply, countSays, widthSays, numberSays, BuiltAs};
-ghost use Rattle.lines.specs.Lines.{cutFrom, lines, builtOf, WroteAs};
-ghost use Rattle.lines.specs.Ranks.{ranks, ranksAnswer, RankedAs};
+ghost use Rattle.lines.specs.Lines.{builtOf};
 ghost use Rattle.calls.specs.Ones.{toldOf};
+ghost use Rattle.calls.specs.Meets.{CountMeets, WidthMeets, NumberAllMeets, NumberMeets, BuildAllMeets, BuildMeets};
 use job::Built;
 use job::Counted;
 use job::Numbered;
@@ -22,7 +17,7 @@ use lines::Wrote;
 
 // How many edges a job has (document 01, "Counts"). "1 Form: .. family not 1 to 7" is what is left where no crate has the family.
 pub fn count(block: &[u8]) -> Counted
-    ensures { λ r. ⌜ countSays r ≡ reply (countAnswer (now (block .entry))) ⌝ }
+    ensures { λ r. ⌜ CountMeets (now (block .entry)) r ⌝ }
 {
     if let Counting::Mine(r) = rows::count(block) {
         return r;
@@ -48,7 +43,7 @@ fn width_of(count: u64) -> u8
 
 // The width of a job (document 01, "Counts").
 pub fn width(block: &[u8]) -> Sized
-    ensures { λ r. ⌜ widthSays r ≡ reply (widthAnswer (now (block .entry))) ⌝ }
+    ensures { λ r. ⌜ WidthMeets (now (block .entry)) r ⌝ }
 {
     match count(block) {
         Counted::Count(c) => Sized::Width(width_of(c)),
@@ -65,7 +60,7 @@ pub fn number_all(
     ends: &[usize],
     numbers: &mut [u64],
 ) -> Ranked
-    ensures { λ r. ⌜ RankedAs (ranks (ranksAnswer (now (block .entry)) (cutFrom from (now (ends .entry)) (now (bytes .entry)))) (length (now (ends .entry))) (now (numbers .entry))) r (now (numbers .exit)) ⌝ }
+    ensures { λ r. ⌜ NumberAllMeets (now (block .entry)) (now (bytes .entry)) from (now (ends .entry)) (now (numbers .entry)) r (now (numbers .exit)) ⌝ }
 {
     if let Numbering::Mine(r) = rows::number_all(block, bytes, from, ends, numbers) {
         return r;
@@ -94,7 +89,7 @@ fn told(n: usize, number: u64) -> Numbered
 
 // How many edges of the job stand before this one (document 01, "Order and numbers").
 pub fn number(block: &[u8], edge: &[u8]) -> Numbered
-    ensures { λ r. ⌜ numberSays r ≡ reply (numberAnswer (now (block .entry)) (now (edge .entry))) ⌝ }
+    ensures { λ r. ⌜ NumberMeets (now (block .entry)) (now (edge .entry)) r ⌝ }
 {
     let ends = [edge.len()];
     let mut numbers = [0u64; 1];
@@ -108,7 +103,7 @@ pub fn number(block: &[u8], edge: &[u8]) -> Numbered
 // The edges of a list of numbers, one after the other in steps, and where each ends, with the counts worked out once; nothing is looked at
 // unless there is room for as many edges of any length.
 pub fn build_all(block: &[u8], numbers: &[u64], steps: &mut [u8], ends: &mut [usize]) -> Wrote
-    ensures { λ r. ⌜ WroteAs (lines (edgesAnswer (now (block .entry)) (now (numbers .entry))) (now (numbers .entry)) (now (steps .entry)) (now (ends .entry))) r (now (steps .exit)) (now (ends .exit)) ⌝ }
+    ensures { λ r. ⌜ BuildAllMeets (now (block .entry)) (now (numbers .entry)) (now (steps .entry)) (now (ends .entry)) r (now (steps .exit)) (now (ends .exit)) ⌝ }
 {
     if let Building::Mine(r) = rows::build_all(block, numbers, steps, ends) {
         return r;
@@ -137,7 +132,7 @@ fn built(w: Wrote) -> Built
 
 // The edge of a number, written to the front of the output: straight to it where every edge fits, else by a buffer.
 pub fn build(block: &[u8], number: u64, out: &mut [u8]) -> Built
-    ensures { λ r. ⌜ BuiltAs (buildAnswer (now (block .entry)) number (now (out .entry))) r (now (out .exit)) ⌝ }
+    ensures { λ r. ⌜ BuildMeets (now (block .entry)) number (now (out .entry)) r (now (out .exit)) ⌝ }
 {
     let numbers = [number];
     let mut ends = [0usize; 1];

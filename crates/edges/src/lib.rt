@@ -1,7 +1,5 @@
 // The calls for C (include/edges.h): each returns 0 or document 01's refusal number, and changes nothing on a refusal.
-ghost use Rattle.rules.specs.Answers.{countAnswer, widthAnswer, numberAnswer, buildAnswer};
-ghost use Rattle.rules.specs.Questions.{dipAnswer, secondAnswer, packAnswer, partAnswer, repeatAnswer};
-ghost use Rattle.edges.specs.Seen.{Seen, SeenWrite, SeenDip, SeenSecond, SeenPart, SeenRepeat};
+ghost use Rattle.edges.specs.Meets.{EdgesCountMeets, EdgesWidthMeets, EdgesNumberMeets, EdgesBuildMeets, EdgesDipMeets, EdgesEarlierMeets, EdgesPackWriteMeets, EdgesPackEdgeMeets, EdgesPackRepeatMeets};
 use job::Built;
 use job::Counted;
 use job::Numbered;
@@ -14,7 +12,7 @@ use questions::Which;
 // How many edges the block's job has, behind `count`.
 #[no_mangle]
 pub extern "C" fn edges_count(block: &[u8], count: &mut u64) -> u8
-    ensures { λ r. ⌜ Seen (countAnswer (now (block .entry))) r (now (count .entry)) (now (count .exit)) ⌝ }
+    ensures { λ r. ⌜ EdgesCountMeets (now (block .entry)) (now (count .entry)) r (now (count .exit)) ⌝ }
 {
     match calls::count(block) {
         Counted::Count(c) => {
@@ -28,7 +26,7 @@ pub extern "C" fn edges_count(block: &[u8], count: &mut u64) -> u8
 // The least number of bits that holds every number below the count, behind `width`.
 #[no_mangle]
 pub extern "C" fn edges_width(block: &[u8], width: &mut u8) -> u8
-    ensures { λ r. ⌜ Seen (widthAnswer (now (block .entry))) r (now (width .entry)) (now (width .exit)) ⌝ }
+    ensures { λ r. ⌜ EdgesWidthMeets (now (block .entry)) (now (width .entry)) r (now (width .exit)) ⌝ }
 {
     match calls::width(block) {
         Sized::Width(w) => {
@@ -42,7 +40,7 @@ pub extern "C" fn edges_width(block: &[u8], width: &mut u8) -> u8
 // How many edges of the job stand before this one, behind `number`.
 #[no_mangle]
 pub extern "C" fn edges_number(block: &[u8], edge: &[u8], number: &mut u64) -> u8
-    ensures { λ r. ⌜ Seen (numberAnswer (now (block .entry)) (now (edge .entry))) r (now (number .entry)) (now (number .exit)) ⌝ }
+    ensures { λ r. ⌜ EdgesNumberMeets (now (block .entry)) (now (edge .entry)) (now (number .entry)) r (now (number .exit)) ⌝ }
 {
     match calls::number(block, edge) {
         Numbered::Number(n) => {
@@ -56,7 +54,7 @@ pub extern "C" fn edges_number(block: &[u8], edge: &[u8], number: &mut u64) -> u
 // The edge of a number at the front of `out`, and its length behind `len`.
 #[no_mangle]
 pub extern "C" fn edges_build(block: &[u8], number: u64, out: &mut [u8], len: &mut usize) -> u8
-    ensures { λ r. ⌜ SeenWrite (buildAnswer (now (block .entry)) number (now (out .entry))) r (now (len .entry)) (now (len .exit)) (now (out .exit)) ⌝ }
+    ensures { λ r. ⌜ EdgesBuildMeets (now (block .entry)) number (now (out .entry)) (now (len .entry)) r (now (out .exit)) (now (len .exit)) ⌝ }
 {
     match calls::build(block, number, out) {
         Built::Length(l) => {
@@ -70,7 +68,7 @@ pub extern "C" fn edges_build(block: &[u8], number: u64, out: &mut [u8], len: &m
 // Whether the edge dips behind `dips`, and where behind `place`, which is left as it was if it doesn't.
 #[no_mangle]
 pub extern "C" fn edges_dip(block: &[u8], edge: &[u8], dips: &mut u8, place: &mut usize) -> u8
-    ensures { λ r. ⌜ SeenDip (dipAnswer (now (block .entry)) (now (edge .entry))) r (now (dips .entry)) (now (place .entry)) (now (dips .exit)) (now (place .exit)) ⌝ }
+    ensures { λ r. ⌜ EdgesDipMeets (now (block .entry)) (now (edge .entry)) (now (dips .entry)) (now (place .entry)) r (now (dips .exit)) (now (place .exit)) ⌝ }
 {
     match questions::dip(block, edge) {
         Dips::At(i) => {
@@ -89,7 +87,7 @@ pub extern "C" fn edges_dip(block: &[u8], edge: &[u8], dips: &mut u8, place: &mu
 // Whether the second of two edges is the earlier one, behind `second`.
 #[no_mangle]
 pub extern "C" fn edges_earlier(block: &[u8], a: &[u8], b: &[u8], second: &mut u8) -> u8
-    ensures { λ r. ⌜ SeenSecond (secondAnswer (now (block .entry)) (now (a .entry)) (now (b .entry))) r (now (second .entry)) (now (second .exit)) ⌝ }
+    ensures { λ r. ⌜ EdgesEarlierMeets (now (block .entry)) (now (a .entry)) (now (b .entry)) (now (second .entry)) r (now (second .exit)) ⌝ }
 {
     match questions::compare(block, a, b) {
         Which::First => {
@@ -112,7 +110,7 @@ pub extern "C" fn edges_pack_write(
     out: &mut [u8],
     len: &mut usize,
 ) -> u8
-    ensures { λ r. ⌜ SeenWrite (packAnswer (now (block .entry)) (now (numbers .entry)) (now (out .entry))) r (now (len .entry)) (now (len .exit)) (now (out .exit)) ⌝ }
+    ensures { λ r. ⌜ EdgesPackWriteMeets (now (block .entry)) (now (numbers .entry)) (now (out .entry)) (now (len .entry)) r (now (out .exit)) (now (len .exit)) ⌝ }
 {
     match packing::write(block, numbers, out) {
         Built::Length(n) => {
@@ -126,7 +124,7 @@ pub extern "C" fn edges_pack_write(
 // Where edge i of a pack begins and ends, behind `start` and `end`.
 #[no_mangle]
 pub extern "C" fn edges_pack_edge(pack: &[u8], i: usize, start: &mut usize, end: &mut usize) -> u8
-    ensures { λ r. ⌜ SeenPart (partAnswer (now (pack .entry)) i) r (now (start .entry)) (now (end .entry)) (now (start .exit)) (now (end .exit)) ⌝ }
+    ensures { λ r. ⌜ EdgesPackEdgeMeets (now (pack .entry)) i (now (start .entry)) (now (end .entry)) r (now (start .exit)) (now (end .exit)) ⌝ }
 {
     match pack::part(pack, i) {
         Parted::Part(s, e) => {
@@ -147,7 +145,7 @@ pub extern "C" fn edges_pack_repeat(
     later: &mut usize,
     earlier: &mut usize,
 ) -> u8
-    ensures { λ r. ⌜ SeenRepeat (repeatAnswer (now (pack .entry))) r (now (found .entry)) (now (later .entry)) (now (earlier .entry)) (now (found .exit)) (now (later .exit)) (now (earlier .exit)) ⌝ }
+    ensures { λ r. ⌜ EdgesPackRepeatMeets (now (pack .entry)) (now (found .entry)) (now (later .entry)) (now (earlier .entry)) r (now (found .exit)) (now (later .exit)) (now (earlier .exit)) ⌝ }
 {
     match pack::repeat(pack) {
         Repeats::At(i, j) => {

@@ -1,11 +1,5 @@
 // Families 6 and 7: count, number and build over the table, filled column by column.
-ghost use lib.ListN.{length};
-ghost use Rattle.rules.specs.Blocks.{familyOf, paired};
-ghost use Rattle.rules.specs.Answers.{countAnswer};
-ghost use Rattle.rules.specs.Questions.{edgesAnswer};
-ghost use Rattle.lines.specs.Lines.{cutFrom, lines};
-ghost use Rattle.lines.specs.Ranks.{ranks, ranksAnswer};
-ghost use Rattle.lines.specs.Mine.{CountsFor, RanksFor, LinesFor};
+ghost use Rattle.grid.specs.Meets.{CountMeets, NumberAllMeets, BuildAllMeets};
 
 mod column;
 mod cone;
@@ -32,7 +26,7 @@ use lines::Wrote;
 
 // The count of a job of family 6 or 7 (document 01, "Counts").
 pub fn count(block: &[u8]) -> Counting
-    ensures { λ r. ⌜ CountsFor (paired (familyOf (now (block .entry)))) (countAnswer (now (block .entry))) r ⌝ }
+    ensures { λ r. ⌜ CountMeets (now (block .entry)) r ⌝ }
 {
     let k = known_of(block, true);
     let told = k.told;
@@ -52,7 +46,7 @@ pub fn number_all(
     ends: &[usize],
     numbers: &mut [u64],
 ) -> Numbering
-    ensures { λ r. ⌜ RanksFor (paired (familyOf (now (block .entry)))) (ranks (ranksAnswer (now (block .entry)) (cutFrom from (now (ends .entry)) (now (bytes .entry)))) (length (now (ends .entry))) (now (numbers .entry))) r (now (numbers .entry)) (now (numbers .exit)) ⌝ }
+    ensures { λ r. ⌜ NumberAllMeets (now (block .entry)) (now (bytes .entry)) from (now (ends .entry)) (now (numbers .entry)) r (now (numbers .exit)) ⌝ }
 {
     let k = known_of(block, ends.len() <= numbers.len());
     let told = k.told;
@@ -72,7 +66,7 @@ pub fn number_all(
 
 // The edges of a list of numbers, one after the other, and where each ends (001, algorithm 8).
 pub fn build_all(block: &[u8], numbers: &[u64], steps: &mut [u8], ends: &mut [usize]) -> Building
-    ensures { λ r. ⌜ LinesFor (paired (familyOf (now (block .entry)))) (lines (edgesAnswer (now (block .entry)) (now (numbers .entry))) (now (numbers .entry)) (now (steps .entry)) (now (ends .entry))) r (now (steps .entry)) (now (ends .entry)) (now (steps .exit)) (now (ends .exit)) ⌝ }
+    ensures { λ r. ⌜ BuildAllMeets (now (block .entry)) (now (numbers .entry)) (now (steps .entry)) (now (ends .entry)) r (now (steps .exit)) (now (ends .exit)) ⌝ }
 {
     let k = known_of(
         block,

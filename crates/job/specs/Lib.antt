@@ -2,3 +2,4 @@ pub mod Made
 pub mod Replies
 pub mod Stands
 pub mod Parts
+pub mod Meets

@@ -1,13 +1,11 @@
 // Jobs made from their block of 20 bytes (document 01, "Job block"), and the answers that every call gives.
 ghost use mathlib.Core.Path.{_≡_};
-ghost use Prim.Native.Nat.{ℕ, _+_, _*_, _%_, _≤_, _<_};
-ghost use lib.ListN.{length, drop, getD};
-ghost use Rattle.rules.specs.Blocks.{familyOf, plain, square, paired, zeros, formed, sized, sizedLettered, sizedDirected, small, used, isIn, twins, fenced};
+ghost use Prim.Native.Nat.{_+_, _≤_, _<_};
+ghost use lib.ListN.{length, drop};
+ghost use Rattle.rules.specs.Blocks.{zeros, formed, sized, sizedLettered, sizedDirected, small, used, isIn, twins};
 ghost use mathlib.Core.List.{_++_};
-ghost use Rattle.rules.specs.Answers.{written};
-ghost use Rattle.rules.specs.Refusals.Answer.{accepted};
-ghost use Rattle.job.specs.Replies.{BuiltAs};
-ghost use Rattle.job.specs.Made.{raised, pairOf, inRange, Twenty, Pairs, madeOf, heldBy, refusedBy, acceptedBy};
+ghost use Rattle.job.specs.Made.{raised, pairOf, inRange, Twenty, Pairs, heldBy, refusedBy, acceptedBy};
+ghost use Rattle.job.specs.Meets.{PutMeets, FamilyOfMeets, IsPlainMeets, IsSquareMeets, IsFencedMeets, IsPairedMeets, JobOfMeets};
 
 // A step's letter: `N`, `E` and `D` of families 1 to 5, and `1`, the first digit of families 6 and 7.
 pub struct Step {
@@ -66,7 +64,7 @@ pub enum Built {
 
 // "7 Room": an edge written to the front of the output, if it fits; nothing behind it is touched.
 pub fn put(edge: &[u8], out: &mut [u8]) -> Built
-    ensures { λ r. ⌜ BuiltAs (written (accepted (now (edge .entry))) (now (out .entry))) r (now (out .exit)) ⌝ }
+    ensures { λ r. ⌜ PutMeets (now (edge .entry)) (now (out .entry)) r (now (out .exit)) ⌝ }
 {
     if out.len() < edge.len() {
         return Built::Refused(7);
@@ -101,7 +99,7 @@ fn wide(x: u8) -> usize
 
 // The family that a block says it is of: its first byte, 0 where there is none, which is no family's number.
 pub fn family_of(block: &[u8]) -> u8
-    ensures { λ r. ⌜ r ≡ familyOf (now (block .entry)) ⌝ }
+    ensures { λ r. ⌜ FamilyOfMeets (now (block .entry)) r ⌝ }
 {
     if block.len() < 1 {
         return 0;
@@ -111,7 +109,7 @@ pub fn family_of(block: &[u8]) -> u8
 
 // Whether the family is 1 or 3.
 pub fn is_plain(family: u8) -> bool
-    ensures { λ r. ⌜ r ≡ plain family ⌝ }
+    ensures { λ r. ⌜ IsPlainMeets family r ⌝ }
 {
     if family == 1 {
         return true;
@@ -121,7 +119,7 @@ pub fn is_plain(family: u8) -> bool
 
 // Whether the family is 2, 4 or 5: its end is (n,n), and it stays at y ≤ x.
 pub fn is_square(family: u8) -> bool
-    ensures { λ r. ⌜ r ≡ square family ⌝ }
+    ensures { λ r. ⌜ IsSquareMeets family r ⌝ }
 {
     if family == 2 {
         return true;
@@ -134,14 +132,14 @@ pub fn is_square(family: u8) -> bool
 
 // Whether the family is 7: it stays at y ≥ 0.
 pub fn is_fenced(family: u8) -> bool
-    ensures { λ r. ⌜ r ≡ fenced family ⌝ }
+    ensures { λ r. ⌜ IsFencedMeets family r ⌝ }
 {
     family == 7
 }
 
 // Whether the family is 6 or 7: its steps are pairs, written as digits.
 pub fn is_paired(family: u8) -> bool
-    ensures { λ r. ⌜ r ≡ paired family ⌝ }
+    ensures { λ r. ⌜ IsPairedMeets family r ⌝ }
 {
     if family == 6 {
         return true;
@@ -339,7 +337,7 @@ impl Job {
 
     // "Every job is made from its block of 20 bytes": the job, or refusal 1, 2 or 3.
     pub fn of(block: &[u8]) -> Made
-        ensures { λ r. ⌜ r ≡ madeOf (now (block .entry)) ⌝ }
+        ensures { λ r. ⌜ JobOfMeets (now (block .entry)) r ⌝ }
     {
         if !is_formed(block) {
             return Job::refused(1);

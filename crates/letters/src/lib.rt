@@ -1,6 +1,6 @@
 // Which step a byte of an edge stands for: the letters N E D for families 1 to 5, the digits 1 to 8 for families 6 and 7.
 ghost use mathlib.Core.Path.{_≡_};
-ghost use Rattle.letters.specs.Letters.{placeOf};
+ghost use Rattle.letters.specs.Meets.{PlaceOfMeets};
 use job::Step;
 
 fn wide(x: u8) -> usize
@@ -11,7 +11,7 @@ fn wide(x: u8) -> usize
 
 // Which step the byte b stands for; 8 where it is no letter.
 pub fn place_of(lettered: bool, b: u8) -> usize
-    ensures { λ r. ⌜ r ≡ placeOf lettered b ⌝ }
+    ensures { λ r. ⌜ PlaceOfMeets lettered b r ⌝ }
 {
     if lettered {
         if b == Step::NORTH {

@@ -1,10 +1,8 @@
 // Lists of edges and of numbers, as the crate of some families answers them with its counts worked out once: edges stand one after the other
 // in one lent slice, and where each of them ends in another.
 ghost use mathlib.Core.Path.{_≡_};
-ghost use lib.ListN.{length};
-ghost use Rattle.rules.specs.Questions.{allBelow};
-ghost use Rattle.job.specs.Parts.{PartOf};
-ghost use Rattle.lines.specs.Lines.{roomy, lesser};
+ghost use Rattle.lines.specs.Lines.{lesser};
+ghost use Rattle.lines.specs.Meets.{HasRoomMeets, AllBelowMeets, PartMeets};
 use job::Built;
 use job::Counted;
 
@@ -55,7 +53,7 @@ impl Line {
 
 // Whether there is room for so many edges of any length, and for their ends.
 pub fn has_room(many: usize, steps: usize, ends: usize) -> bool
-    ensures { λ r. ⌜ r ≡ roomy many steps ends ⌝ }
+    ensures { λ r. ⌜ HasRoomMeets many steps ends r ⌝ }
 {
     if ends < many {
         return false;
@@ -65,7 +63,7 @@ pub fn has_room(many: usize, steps: usize, ends: usize) -> bool
 
 // Whether every number is below the count.
 pub fn all_below(numbers: &[u64], count: u64) -> bool
-    ensures { λ r. ⌜ r ≡ allBelow count (now (numbers .entry)) ⌝ }
+    ensures { λ r. ⌜ AllBelowMeets (now (numbers .entry)) count r ⌝ }
 {
     let mut i = 0;
     while i < numbers.len() {
@@ -85,7 +83,7 @@ fn lesser_of(a: usize, b: usize) -> usize
 
 // The bytes of s from `from` up to, not including, `to`, as part of s: none where `to` isn't above `from`, and no more than s has.
 pub fn part(s: &[u8], from: usize, to: usize) -> &[u8]
-    ensures { λ r. ⌜ PartOf (s .entry) (lesser from (length (now (s .entry)))) to r ⌝ }
+    ensures { λ r. ⌜ PartMeets (s .entry) from to r ⌝ }
 {
     let a = lesser_of(from, s.len());
     let e = lesser_of(to, s.len());

@@ -4,11 +4,9 @@ mod body; // body.rt: the lines
 
 ghost use Prim.Native.Nat.{_≤_};
 ghost use lib.ListN.{length};
-ghost use Rattle.rules.specs.Refusals.Answer.{accepted};
-ghost use Rattle.rules.specs.Answers.{written};
-ghost use Rattle.job.specs.Replies.{BuiltAs};
 ghost use Rattle.listing.specs.Listing.{listingText};
 ghost use Rattle.listing.specs.Texts.{Appended, Bodied};
+ghost use Rattle.listing.specs.Meets.{WriteMeets};
 use job::Built;
 use job::Counted;
 
@@ -17,7 +15,7 @@ const LONGEST: usize = 152000;
 
 // The whole output for an input, written to the front of out; refusal 7 if it doesn't fit.
 pub fn write(block: &[u8], out: &mut [u8]) -> Built
-    ensures { λ r. ⌜ BuiltAs (written (accepted (listingText (now (block .entry)))) (now (out .entry))) r (now (out .exit)) ⌝ }
+    ensures { λ r. ⌜ WriteMeets (now (block .entry)) (now (out .entry)) r (now (out .exit)) ⌝ }
 {
     let mut text = [0u8; LONGEST];
     let end = compose(block, &mut text);

@@ -1,3 +1,4 @@
 pub mod Layout
 pub mod Parts
 pub mod Replies
+pub mod Meets

@@ -1,11 +1,5 @@
 // Questions on packs (document 01, "Edge pack" and "Questions on edges"): edge i of a pack, and the first repeat.
-ghost use mathlib.Core.Path.{_≡_};
-ghost use Prim.Native.Nat.{ℕ};
-ghost use Rattle.rules.specs.Questions.{partAnswer, repeatAnswer};
-ghost use Rattle.job.specs.Parts.{refusalIn};
-ghost use Rattle.job.specs.Replies.{reply};
-ghost use Rattle.pack.specs.Parts.{EdgeIs};
-ghost use Rattle.pack.specs.Replies.{partSays, repeatSays};
+ghost use Rattle.pack.specs.Meets.{PartMeets, EdgeMeets, EdgeRefusalMeets, RepeatMeets};
 
 mod layout;
 mod refusals;
@@ -46,7 +40,7 @@ pub enum Repeats {
 
 // Edge i of a pack (document 01, "Questions on edges"), by where it begins and ends.
 pub fn part(pack: &[u8], i: usize) -> Parted
-    ensures { λ r. ⌜ partSays r ≡ reply (partAnswer (now (pack .entry)) i) ⌝ }
+    ensures { λ r. ⌜ PartMeets (now (pack .entry)) i r ⌝ }
 {
     let refusal = refusals::refusal_of(pack);
     if refusal != 0 {
@@ -60,7 +54,7 @@ pub fn part(pack: &[u8], i: usize) -> Parted
 
 // Edge i of a pack, "handed back as part of the pack"; on a refusal the empty part at its front.
 pub fn edge(pack: &[u8], i: usize) -> &[u8]
-    ensures { λ r. ⌜ EdgeIs (partAnswer (now (pack .entry)) i) (pack .entry) r ⌝ }
+    ensures { λ r. ⌜ EdgeMeets (pack .entry) i r ⌝ }
 {
     match part(pack, i) {
         Parted::Part(start, end) => &pack[start..end],
@@ -70,7 +64,7 @@ pub fn edge(pack: &[u8], i: usize) -> &[u8]
 
 // The partner question of `edge`: the refusal number, 0 if none.
 pub fn edge_refusal(pack: &[u8], i: usize) -> u8
-    ensures { λ r. ⌜ r ≡ refusalIn (partAnswer (now (pack .entry)) i) ⌝ }
+    ensures { λ r. ⌜ EdgeRefusalMeets (now (pack .entry)) i r ⌝ }
 {
     match part(pack, i) {
         Parted::Part(_, _) => 0,
@@ -80,7 +74,7 @@ pub fn edge_refusal(pack: &[u8], i: usize) -> u8
 
 // "Repeat": the first edge that equals an earlier one, with the earliest it equals, or none.
 pub fn repeat(pack: &[u8]) -> Repeats
-    ensures { λ r. ⌜ repeatSays r ≡ reply (repeatAnswer (now (pack .entry))) ⌝ }
+    ensures { λ r. ⌜ RepeatMeets (now (pack .entry)) r ⌝ }
 {
     let refusal = refusals::refusal_of(pack);
     if refusal == 0 {

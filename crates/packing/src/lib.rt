@@ -1,9 +1,8 @@
 // Packs written from a job block and a lent list of numbers (document 01, "Edge pack").
 ghost use mathlib.Core.Path.{_≡_};
-ghost use Rattle.rules.specs.Questions.{packAnswer};
-ghost use Rattle.job.specs.Replies.{BuiltAs};
 ghost use Rattle.lines.specs.Lines.{builtOf};
 ghost use Rattle.packing.specs.Packing.{TooMany};
+ghost use Rattle.packing.specs.Meets.{WriteMeets};
 use job::Built;
 use job::Counted;
 use lines::Wrote;
@@ -12,7 +11,7 @@ mod put; // put.rt: the parts of a pack, put to a lent output
 
 // "Packs are written from a job block and a lent list of numbers": refusals 1 to 4, then 10, 6 and 7; the counts are worked out once.
 pub fn write(block: &[u8], numbers: &[u64], out: &mut [u8]) -> Built
-    ensures { λ r. ⌜ BuiltAs (packAnswer (now (block .entry)) (now (numbers .entry)) (now (out .entry))) r (now (out .exit)) ⌝ }
+    ensures { λ r. ⌜ WriteMeets (now (block .entry)) (now (numbers .entry)) (now (out .entry)) r (now (out .exit)) ⌝ }
 {
     let c = numbers.len();
     if pack::Pack::MOST < c {

@@ -2,8 +2,8 @@
 ghost use mathlib.Core.Path.{_≡_};
 ghost use Prim.Native.Nat.{_≤_};
 ghost use lib.ListN.{length};
-ghost use Rattle.job.specs.Replies.{reply, countSays};
-ghost use Rattle.plains.specs.Plains.{plainAnswer, NextRow};
+ghost use Rattle.plains.specs.Plains.{NextRow};
+ghost use Rattle.plains.specs.Meets.{CountMeets};
 use job::Counted;
 use std::num::wrapping_add_u64;
 
@@ -37,7 +37,7 @@ fn next_row(row: &mut [u64; 34], n: usize, diagonal: bool) -> bool
 // The count to (n, m), where n is the lesser.
 fn count_rows(n: usize, m: usize, diagonal: bool) -> Counted
     requires { ⌜ n ≤ 33 ⌝ }
-    ensures { λ r. ⌜ countSays r ≡ reply (plainAnswer diagonal n m) ⌝ }
+    ensures { λ r. ⌜ CountMeets n m diagonal r ⌝ }
 {
     let mut row = [1u64; 34];
     let mut j: usize = 0;
@@ -53,7 +53,7 @@ fn count_rows(n: usize, m: usize, diagonal: bool) -> Counted
 // How many edges lead to (n, m) by N and E, and by D where `diagonal`; refusal 4 if they need more than 64 bits, as they do where both n and
 // m are above 33.
 pub fn count(n: u8, m: u8, diagonal: bool) -> Counted
-    ensures { λ r. ⌜ countSays r ≡ reply (plainAnswer diagonal n m) ⌝ }
+    ensures { λ r. ⌜ CountMeets n m diagonal r ⌝ }
 {
     if n <= 33 {
         return count_rows(n as usize, m as usize, diagonal);

@@ -1,3 +1,4 @@
 pub mod One
+pub mod Settled
 pub mod Carried
 pub mod Packs

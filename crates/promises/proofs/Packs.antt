@@ -27,7 +27,10 @@ use Rattle.pack.specs.declared.Parted.{Parted}
 use Rattle.pack.specs.declared.Parted.the-variants.{Part as PartAt, Refused as PartRefused}
 use Rattle.questions.specs.declared.Which.{Which}
 use Rattle.questions.specs.declared.Which.the-variants.{First, Second}
-use Rattle.promises.specs.Contracts.{Numbers, Packs, Parts, Compares}
+use Rattle.calls.specs.Meets.{NumberMeets}
+use Rattle.packing.specs.Meets.{WriteMeets}
+use Rattle.pack.specs.Meets.{PartMeets}
+use Rattle.questions.specs.Meets.{CompareMeets}
 use Rattle.promises.proofs.One.{numbered-one, parted-one, which-one}
 use Rattle.promises.proofs.Carried.{Put, put-of}
 
@@ -43,7 +46,7 @@ pack-is : (b ns output : List ℕ) → packAnswer b ns output ≡ written (packe
 unfolding packAnswer
 pack-is b ns output = refl
 
-module _ (b ns output after : List ℕ) (l : ℕ) (w : Packs b ns output (Length l) after) where
+module _ (b ns output after : List ℕ) (l : ℕ) (w : WriteMeets b ns output (Length l) after) where
   put : Put (packedAnswer b ns) output l after
   put = put-of (packedAnswer b ns) output after l (rw (pack-is b ns output) at w)
 
@@ -52,13 +55,13 @@ module _ (b ns output after : List ℕ) (l : ℕ) (w : Packs b ns output (Length
       let p = put in
       p .is ∙ ap accepted (sym (ap (λ (k : ℕ). take k after) (sym (p .long)) ∙ ap (take (length (p .edge))) (p .bytes) ∙ take-append-seam (p .edge) (drop (length (p .edge)) output)))
 
-  pub written-part : (i : ℕ) → i < length ns → (x : Parted) → Parts (take l after) i x
+  pub written-part : (i : ℕ) → i < length ns → (x : Parted) → PartMeets (take l after) i x
       → (q : Part) × (x ≡ PartAt (q .start) (q .end)) × (edgeAnswer b (getD ns i 0) ≡ accepted (partOf (take l after) (q .start) (q .end)))
   written-part i h x y =
       let (q, e, f) = packed-edge b ns (take l after) written-pack i h in
       (q, parted-one _ x (PartAt (q .start) (q .end)) y (ap reply (sym e)), f)
 
-  pub written-number : (i : ℕ) → i < length ns → (s e : ℕ) → Parts (take l after) i (PartAt s e) → (y : Numbered) → Numbers b (partOf (take l after) s e) y
+  pub written-number : (i : ℕ) → i < length ns → (s e : ℕ) → PartMeets (take l after) i (PartAt s e) → (y : Numbered) → NumberMeets b (partOf (take l after) s e) y
       → y ≡ Number (getD ns i 0)
   written-number i h s e p y n =
       let (q, same, f) = written-part i h (PartAt s e) p in
@@ -68,7 +71,7 @@ module _ (b ns output after : List ℕ) (l : ℕ) (w : Packs b ns output (Length
       numbered-one _ y (Number (getD ns i 0)) n (ap reply (sym (hence.built-number b J known (getD ns i 0) (partOf (take l after) s e) edge)))
 
 -- the order of document 01, which mentions no number
-module _ (b : List ℕ) (J : Job) (known : knownJob b ≡ accepted J) (e f : List ℕ) (v : Valid J e) (u : Valid J f) (x : Which) (h : Compares b e f x) where
+module _ (b : List ℕ) (J : Job) (known : knownJob b ≡ accepted J) (e f : List ℕ) (v : Valid J e) (u : Valid J f) (x : Which) (h : CompareMeets b e f x) where
   pub compare-second : Before J f e → x ≡ Second
   compare-second t = which-one _ x Second h (ap reply (sym (before-second b J known e f v u t)))
 

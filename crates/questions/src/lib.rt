@@ -2,11 +2,9 @@
 ghost use mathlib.Core.Path.{_≡_};
 ghost use mathlib.Core.Bool.{_||_};
 ghost use lib.Dec.{ltb};
-ghost use Rattle.rules.specs.Questions.{secondAnswer, dipAnswer};
-ghost use Rattle.job.specs.Parts.{refusalIn};
-ghost use Rattle.job.specs.Replies.{reply};
-ghost use Rattle.questions.specs.Replies.{whichSays, dipSays, whichOf, Handed};
+ghost use Rattle.questions.specs.Replies.{whichOf};
 ghost use Rattle.questions.specs.Steps.{Digits, DipsAs};
+ghost use Rattle.questions.specs.Meets.{CompareMeets, EarlierMeets, EarlierRefusalMeets, DipMeets};
 use job::Counted;
 use job::Job;
 use job::Numbered;
@@ -39,7 +37,7 @@ fn which_of(a: u64, b: u64) -> Which
 
 // Which of two edges of one job is the earlier (document 01, "Questions on edges"): the numbers decide.
 pub fn compare(block: &[u8], a: &[u8], b: &[u8]) -> Which
-    ensures { λ r. ⌜ whichSays r ≡ reply (secondAnswer (now (block .entry)) (now (a .entry)) (now (b .entry))) ⌝ }
+    ensures { λ r. ⌜ CompareMeets (now (block .entry)) (now (a .entry)) (now (b .entry)) r ⌝ }
 {
     match calls::number(block, a) {
         Numbered::Number(x) => match calls::number(block, b) {
@@ -52,7 +50,7 @@ pub fn compare(block: &[u8], a: &[u8], b: &[u8]) -> Which
 
 // The earlier of two lent edges, itself; on a refusal the empty part at the front of the first.
 pub fn earlier<'a>(block: &[u8], a: &'a [u8], b: &'a [u8]) -> &'a [u8]
-    ensures { λ r. ⌜ Handed (secondAnswer (now (block .entry)) (now (a .entry)) (now (b .entry))) (a .entry) (b .entry) r ⌝ }
+    ensures { λ r. ⌜ EarlierMeets (now (block .entry)) (a .entry) (b .entry) r ⌝ }
 {
     match compare(block, a, b) {
         Which::First => a,
@@ -63,7 +61,7 @@ pub fn earlier<'a>(block: &[u8], a: &'a [u8], b: &'a [u8]) -> &'a [u8]
 
 // The refusal number of that question, 0 if none.
 pub fn earlier_refusal(block: &[u8], a: &[u8], b: &[u8]) -> u8
-    ensures { λ r. ⌜ r ≡ refusalIn (secondAnswer (now (block .entry)) (now (a .entry)) (now (b .entry))) ⌝ }
+    ensures { λ r. ⌜ EarlierRefusalMeets (now (block .entry)) (now (a .entry)) (now (b .entry)) r ⌝ }
 {
     match compare(block, a, b) {
         Which::First => 0,
@@ -113,7 +111,7 @@ fn first_rise(job: Job, edge: &[u8]) -> Dips
 // Whether an edge of family 6 or 7 dips, and where (document 01, "Questions on edges"): it is walked, not numbered. "11 Kind: dip asked in
 // families 1 to 5", after refusal 4 and before 5.
 pub fn dip(block: &[u8], edge: &[u8]) -> Dips
-    ensures { λ r. ⌜ dipSays r ≡ reply (dipAnswer (now (block .entry)) (now (edge .entry))) ⌝ }
+    ensures { λ r. ⌜ DipMeets (now (block .entry)) (now (edge .entry)) r ⌝ }
 {
     let made = Job::of(block);
     let refusal = made.refusal;

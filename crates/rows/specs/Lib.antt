@@ -1,3 +1,4 @@
 pub mod Calls
 pub mod Plains
 pub mod Rows
+pub mod Meets

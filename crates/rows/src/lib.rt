@@ -1,14 +1,8 @@
 // Families 1 and 3: count, number and build. The count keeps one row of counts; number and build fill the table, row by row.
 ghost use mathlib.Core.Path.{_≡_};
-ghost use lib.ListN.{length};
-ghost use Rattle.rules.specs.Blocks.{familyOf, plain};
-ghost use Rattle.rules.specs.Answers.{countAnswer};
-ghost use Rattle.rules.specs.Questions.{edgesAnswer};
 ghost use Rattle.job.specs.Replies.{reply, countSays};
-ghost use Rattle.lines.specs.Lines.{cutFrom, lines};
-ghost use Rattle.lines.specs.Ranks.{ranks, ranksAnswer};
-ghost use Rattle.lines.specs.Mine.{CountsFor, RanksFor, LinesFor};
 ghost use Rattle.rows.specs.Plains.{Within, plainCount};
+ghost use Rattle.rows.specs.Meets.{CountMeets, NumberAllMeets, BuildAllMeets};
 
 mod known;
 mod numbering;
@@ -36,7 +30,7 @@ fn count_of(c: Plain) -> Counted
 
 // The count of a job of family 1 or 3 (document 01, "Counts").
 pub fn count(block: &[u8]) -> Counting
-    ensures { λ r. ⌜ CountsFor (plain (familyOf (now (block .entry)))) (countAnswer (now (block .entry))) r ⌝ }
+    ensures { λ r. ⌜ CountMeets (now (block .entry)) r ⌝ }
 {
     match known_of(block, true) {
         Known::NotMine => Counting::NotMine,
@@ -54,7 +48,7 @@ pub fn number_all(
     ends: &[usize],
     numbers: &mut [u64],
 ) -> Numbering
-    ensures { λ r. ⌜ RanksFor (plain (familyOf (now (block .entry)))) (ranks (ranksAnswer (now (block .entry)) (cutFrom from (now (ends .entry)) (now (bytes .entry)))) (length (now (ends .entry))) (now (numbers .entry))) r (now (numbers .entry)) (now (numbers .exit)) ⌝ }
+    ensures { λ r. ⌜ NumberAllMeets (now (block .entry)) (now (bytes .entry)) from (now (ends .entry)) (now (numbers .entry)) r (now (numbers .exit)) ⌝ }
 {
     match known_of(block, ends.len() <= numbers.len()) {
         Known::NotMine => Numbering::NotMine,
@@ -66,7 +60,7 @@ pub fn number_all(
 
 // The edges of a list of numbers, one after the other, and where each ends (000, algorithms 2 and 6).
 pub fn build_all(block: &[u8], numbers: &[u64], steps: &mut [u8], ends: &mut [usize]) -> Building
-    ensures { λ r. ⌜ LinesFor (plain (familyOf (now (block .entry)))) (lines (edgesAnswer (now (block .entry)) (now (numbers .entry))) (now (numbers .entry)) (now (steps .entry)) (now (ends .entry))) r (now (steps .entry)) (now (ends .entry)) (now (steps .exit)) (now (ends .exit)) ⌝ }
+    ensures { λ r. ⌜ BuildAllMeets (now (block .entry)) (now (numbers .entry)) (now (steps .entry)) (now (ends .entry)) r (now (steps .exit)) (now (ends .exit)) ⌝ }
 {
     match known_of(
         block,

@@ -1,9 +1,6 @@
 // Whether strings are valid edges of a job, by walking their steps alone, and where they go wrong (document 01, "Valid"): no table is filled,
 // and no count is worked out.
-ghost use mathlib.Core.Path.{_≡_};
-ghost use Rattle.rules.specs.Blocks.{jobAnswer};
-ghost use Rattle.lines.specs.Lines.{cutFrom};
-ghost use Rattle.walks.specs.Walks.{walkedSays, walkOf, checkedSays, checkOf};
+ghost use Rattle.walks.specs.Meets.{WalkMeets, WalkAllMeets};
 
 mod paces; // paces.rt: the steps of a job as pairs, in every family
 mod walking; // walking.rt: the walk of one string, and of many
@@ -28,7 +25,7 @@ pub enum Checked {
 
 // Whether a string is a valid edge, and if not where it goes wrong.
 pub fn walk(block: &[u8], edge: &[u8]) -> Walked
-    ensures { λ r. ⌜ walkedSays r ≡ walkOf (jobAnswer (now (block .entry))) (now (edge .entry)) ⌝ }
+    ensures { λ r. ⌜ WalkMeets (now (block .entry)) (now (edge .entry)) r ⌝ }
 {
     let made = Job::of(block);
     let refusal = made.refusal;
@@ -43,7 +40,7 @@ pub fn walk(block: &[u8], edge: &[u8]) -> Walked
 
 // The same of the parts of one lent slice, by where the first begins and each ends, up to the first that isn't valid.
 pub fn walk_all(block: &[u8], bytes: &[u8], from: usize, ends: &[usize]) -> Checked
-    ensures { λ r. ⌜ checkedSays r ≡ checkOf (jobAnswer (now (block .entry))) (cutFrom from (now (ends .entry)) (now (bytes .entry))) ⌝ }
+    ensures { λ r. ⌜ WalkAllMeets (now (block .entry)) (now (bytes .entry)) from (now (ends .entry)) r ⌝ }
 {
     let made = Job::of(block);
     let refusal = made.refusal;
