@@ -6,10 +6,10 @@
 --   part-next, part-fits     of the products from i up to half, one more, and that it fits
 --   all-in                   the products up to half, once i is 0
 --   twice-fits, even-is, odd-is    the count is twice the first half of the products, and for an odd n the middle one
---   good-none, good-set      an empty memo is good, and so is one with an entry more
+--   filled-none, filled-kept, filled-set, filled-next, filled-odd, filled-table    entries are the counts: none, if nothing is lost, with another entry, with the next, and all of a table
+--   good-at                  what is worked out is the count
+--   good-none, good-set      an empty memo is good, and so is one with the next entry
 --   kept-same, kept-on, kept-set    nothing is lost by nothing, by two changes that lose nothing, and by an entry more
---   Filled k l               the entries of l below k are the counts
---   filled-none, filled-kept, filled-next, filled-table    so at the start, if nothing is lost, with an entry more, and at the end
 use mathlib.Core.Path.{_≡_, refl, sym, ap, _∙_}
 use mathlib.Core.Bool.{false}
 use mathlib.Core.Logic.{_≢_}
@@ -25,7 +25,7 @@ use Rattle.arches.specs.Counts.{count, before}
 use Rattle.arches.proofs.Counting.{count-zero, before-mono}
 use Rattle.arches.proofs.Limits.{dyck-limit, count-mono}
 use Rattle.arch.specs.Table.{Table}
-use Rattle.arch.specs.Memo.{Good, Kept}
+use Rattle.arch.specs.Memo.{Filled, Good, Kept}
 use Rattle.arch.proofs.Tables.{before-none, before-next}
 use Rattle.arch.proofs.Sides.{sides, whole-is}
 
@@ -74,19 +74,69 @@ module _ (n half s : ℕ) (pos : 0 < n) (eh : half ≡ n / 2) (es : s ≡ part n
       let k : n - 1 - half ≡ half = omega arith in
       rw ea (omega (arith, rw g at (halves n half pos (omega arith)), rw k at (before-next false 0 (n - 1) half)))
 
+-- ---- the entries below k are the counts
+pub filled-none : (l : List ℕ) → Filled 0 l
+unfolding Filled
+filled-none l j h = absurd (not-suc-le-zero h)
+
+C-some : (j : ℕ) → C j ≡ 0 → ⊥
+C-some j z = omega (arith, z, count-zero false 0, count-mono false 0 refl 0 j (omega arith))
+
+pub filled-kept : (k : ℕ) (l m : List ℕ) → Filled k l → Kept l m → Filled k m
+unfolding Filled
+filled-kept k l m f g j h = g .same j (λ z. C-some j (sym (f j h) ∙ z)) ∙ f j h
+
+pub filled-set : (k n w : ℕ) (l : List ℕ) → Filled k l → w ≡ C n → Filled k (set l n w)
+unfolding Filled
+filled-set k n w l f e j h = go (ℕ-discrete j n) (decLe (length l) j)
+  where
+    go : Dec (j ≡ n) → Dec (length l ≤ j) → getD (set l n w) j 0 ≡ C j
+    go (yes q) (yes p) = absurd (C-some j (sym (f j h) ∙ List·getD-eq-default l 0 p))
+    go (yes q) (no p) = rw q (getD-set-same l n w 0 (omega arith) ∙ e)
+    go (no q) p = getD-set-other l n j w 0 q ∙ f j h
+
+pub filled-next : (k w : ℕ) (l : List ℕ) → Filled k l → k < length l → w ≡ C k → Filled (k + 1) (set l k w)
+unfolding Filled
+filled-next k w l f h e j g = go (ℕ-discrete j k)
+  where
+    go : Dec (j ≡ k) → getD (set l k w) j 0 ≡ C j
+    go (yes q) = rw q (getD-set-same l k w 0 h ∙ e)
+    go (no q) = getD-set-other l k j w 0 q ∙ f j (omega arith)
+
+pub filled-table : (n : ℕ) (l : List ℕ) → n ≤ 36 → n < length l → Filled (n + 1) l → Table false 0 n l
+unfolding Filled
+filled-table n l h s f = record {
+  family = refl;
+  long = s;
+  full = λ j i. f j (omega arith);
+  fits = fits n h;
+  small = omega arith;
+}
+
+-- what the loop leaves where n is odd: the two outermost parts, or for 1 the middle one
+pub filled-odd : (n half : ℕ) (l m : List ℕ) → half ≡ n / 2 → n % 2 ≢ 0 → (0 < half → Filled n l) → Kept l m → Filled (half + 1) m → Filled n m
+filled-odd n half l m e ne f g h = go (decLe half 0)
+  where
+    go : Dec (half ≤ 0) → Filled n m
+    go (yes p) = let q : half + 1 ≡ n = omega arith in rw q at h
+    go (no p) = filled-kept n l m (f (omega arith)) g
+
 -- ---- the memo
+pub good-at : (l : List ℕ) (k : ℕ) → Good l → getD l k 0 ≢ 0 → getD l k 0 ≡ C k
+unfolding Good Filled
+good-at l k g ne = g k ne k (omega arith)
+
 pub good-none : (n : ℕ) → Good (replicate n 0)
 unfolding Good
 good-none n k ne = absurd (ne (zeros-at n k))
 
-pub good-set : (l : List ℕ) (n w : ℕ) → Good l → w ≡ C n → Good (set l n w)
+pub good-set : (l : List ℕ) (n w : ℕ) → Good l → Filled n l → n < length l → w ≡ C n → Good (set l n w)
 unfolding Good
-good-set l n w g e k ne = go (ℕ-discrete k n) (decLe (length l) n)
+good-set l n w g f h e k ne = go (ℕ-discrete k n)
   where
-    go : Dec (k ≡ n) → Dec (length l ≤ n) → getD (set l n w) k 0 ≡ C k
-    go (yes q) (yes h) = absurd (ne (List·getD-eq-default (set l n w) 0 (omega (arith, length-set l n w))))
-    go (yes q) (no h) = rw q (getD-set-same l n w 0 (omega arith) ∙ e)
-    go (no q) h = getD-set-other l n k w 0 q ∙ g k (λ z. ne (getD-set-other l n k w 0 q ∙ z))
+    go : Dec (k ≡ n) → Filled (k + 1) (set l n w)
+    go (yes q) = rw q (filled-next n w l f h e)
+    go (no q) = filled-set (k + 1) n w l (g k (λ z. ne (getD-set-other l n k w 0 q ∙ z))) e
 
 pub kept-same : (l : List ℕ) → Kept l l
 kept-same l = record { long = refl; same = λ k ne. refl }
@@ -98,41 +148,9 @@ kept-on f g = record {
 }
 
 pub kept-set : (l : List ℕ) (n w : ℕ) → Good l → w ≡ C n → Kept l (set l n w)
-unfolding Good
 kept-set l n w g e = record { long = length-set l n w; same = λ k ne. go k ne (ℕ-discrete k n) (decLe (length l) k) }
   where
     go : (k : ℕ) → getD l k 0 ≢ 0 → Dec (k ≡ n) → Dec (length l ≤ k) → getD (set l n w) k 0 ≡ getD l k 0
     go k ne (yes q) (yes h) = absurd (ne (List·getD-eq-default l 0 h))
-    go k ne (yes q) (no h) = rw q (getD-set-same l n w 0 (omega arith)) ∙ e ∙ ap C (sym q) ∙ sym (g k ne)
+    go k ne (yes q) (no h) = rw q (getD-set-same l n w 0 (omega arith)) ∙ e ∙ ap C (sym q) ∙ sym (good-at l k g ne)
     go k ne (no q) h = getD-set-other l n k w 0 q
-
--- ---- the table: the entries below k are the counts
-unfoldable pub Filled : ℕ → List ℕ → Type 0
-Filled k l = (j : ℕ) → j < k → getD l j 0 ≡ C j
-
-pub filled-none : (l : List ℕ) → Filled 0 l
-unfolding Filled
-filled-none l j h = absurd (not-suc-le-zero h)
-
-pub filled-kept : (k : ℕ) (l m : List ℕ) → Filled k l → Kept l m → Filled k m
-unfolding Filled
-filled-kept k l m f g j h =
-    g .same j (λ z. omega (arith, f j h, count-zero false 0, count-mono false 0 refl 0 j (omega arith))) ∙ f j h
-
-pub filled-next : (k w : ℕ) (l : List ℕ) → Filled k l → k < length l → w ≡ C k → Filled (k + 1) (set l k w)
-unfolding Filled
-filled-next k w l f h e j g = go (ℕ-discrete j k)
-  where
-    go : Dec (j ≡ k) → getD (set l k w) j 0 ≡ C j
-    go (yes q) = rw q (getD-set-same l k w 0 h ∙ e)
-    go (no q) = getD-set-other l k j w 0 q ∙ f j (omega arith)
-
-pub filled-table : (n k : ℕ) (l : List ℕ) → n ≤ 36 → n < k → n < length l → Filled k l → Table false 0 n l
-unfolding Filled
-filled-table n k l h g s f = record {
-  family = refl;
-  long = s;
-  full = λ j i. f j (omega arith);
-  fits = fits n h;
-  small = omega arith;
-}
