@@ -195,7 +195,7 @@ module _ (t : ℕ) where
   unfolding Good
   part-count-returns c =
       let good = c .before .before .pre .1 .1 in
-      (good-at _ _ good (c .if1 .taken), good, kept-same _, good _ (c .if1 .taken))
+      (good-at (c .before .before .args .memo .now) _ good (c .if1 .taken), good, kept-same _, good _ (c .if1 .taken))
 
   part-count-count-memo-requires : Part part-count-lts.Need-count-memo-requires
   part-count-count-memo-requires c κs = (omega arith, (omega arith, c .before .before .before .pre .1 .1, c .before .before .before .pre .1 .2))
