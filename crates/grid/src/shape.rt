@@ -12,14 +12,9 @@ use crate::heights::highest;
 use crate::heights::lowest;
 use crate::heights::wall;
 use job::Job;
+use job::wide;
 use tables::Shape;
 use tables::Wall;
-
-fn wide(x: u8) -> usize
-    ensures { λ r. ⌜ r ≡ x ⌝ }
-{
-    x as usize
-}
 
 // The job's own heights; f is its fence. An end below -3n can't be reached. The loop has eight turns whatever k is: so the compiler
 // unrolls it and keeps the steps in registers, where as bytes written and read back they would wait for each other.

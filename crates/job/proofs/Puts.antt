@@ -1,7 +1,7 @@
 -- Laws of an edge written to a lent output. Assumes nothing.
 --
---   put-byte, copied-next    one byte more of a copy; copied-all: all of them
---   put-room, put-short      what is written, and that nothing is
+--   put-byte                 one byte more of a copy
+--   put-room, put-short      what is written, and that nothing is; copied-put: what the kit's copy writes
 --   zeros-at                 each of a list of zeros
 use mathlib.Core.Path.{_≡_, refl, sym, ap, _∙_}
 use mathlib.Core.List.{List, [], _∷_, _++_}
@@ -23,11 +23,6 @@ put-byte P L k b l h =
     ap (λ (z : List ℕ). set (P ++ z) k b) (drop-cons L k 0 h) ∙ set-at P (getD L k 0) (drop (suc k) L) b k l
     ∙ sym (append-snoc P b (drop (suc k) L)) ∙ ap (λ (z : ℕ). (P ++ (b ∷ [])) ++ drop z L) s
 
-pub copied-next : (s out old : List ℕ) (i : ℕ) → out ≡ take i s ++ drop i old → i < length s → i < length old → set out i (getD s i 0) ≡ take (i + 1) s ++ drop (i + 1) old
-copied-next s out old i e h g =
-    ap (λ (z : List ℕ). set z i (getD s i 0)) e ∙ put-byte (take i s) old i (getD s i 0) (length-take-le i s (omega arith)) g
-    ∙ ap (λ (z : List ℕ). z ++ drop (i + 1) old) (sym (take-suc s i 0 h) ∙ ap (λ (z : ℕ). take z s) (sym (add-one i)))
-
 pub put-short : (e out : List ℕ) → length out < length e → BuiltAs (written (accepted e) out) (Refused 7) out
 unfolding written refusalNumber
 put-short e out l = rw (lt-leb (length e) (length out) l) (record { says = refl; output = refl })
@@ -36,8 +31,9 @@ pub put-room : (e out after : List ℕ) → length e ≤ length out → after �
 unfolding written
 put-room e out after l q = rw (le-leb (length e) (length out) l) (record { says = refl; output = q })
 
-pub copied-all : (e out after : List ℕ) (i : ℕ) → i ≡ length e → after ≡ take i e ++ drop i out → after ≡ e ++ drop (length e) out
-copied-all e out after i q h = h ∙ rw q (ap (λ (z : List ℕ). z ++ drop (length e) out) (take-length e))
+pub copied-put : (e out after : List ℕ) (r : ℕ) → length e ≤ length out → r ≡ length e → after ≡ take (length e) e ++ drop (length e) out
+    → BuiltAs (written (accepted e) out) (Length r) after
+copied-put e out after r l q h = rw q (put-room e out after l (h ∙ ap (λ (z : List ℕ). z ++ drop (length e) out) (take-length e)))
 
 pub zeros-at : (n i : ℕ) → _≡_ {A = ℕ} (getD (replicate n 0) i 0) 0
 zeros-at zero i = refl

@@ -2,6 +2,7 @@
 -- its parameters, and `promises` speaks of it.
 --
 --   PutMeets         an edge written to the front of the output, or refused with 7
+--   WideMeets        a byte as a size
 --   FamilyOfMeets    the family that a block says it is of
 --   IsPlainMeets     whether a family is 1 or 3
 --   IsSquareMeets    2, 4 or 5
@@ -22,6 +23,9 @@ use Rattle.job.specs.declared.Made.{Made}
 
 abbrev pub PutMeets : List ℕ → List ℕ → Built → List ℕ → Type 0
 PutMeets edge out r out-after = BuiltAs (written (accepted edge) out) r out-after
+
+abbrev pub WideMeets : ℕ → ℕ → Type 0
+WideMeets x r = r ≡ x
 
 abbrev pub FamilyOfMeets : List ℕ → ℕ → Type 0
 FamilyOfMeets block r = r ≡ familyOf block

@@ -1,16 +1,14 @@
 // Jobs made from their block of 20 bytes (document 01, "Job block"), and the answers that every call gives.
 ghost use mathlib.Core.Path.{_≡_};
-ghost use Prim.Native.Nat.{_+_, _≤_, _<_};
-ghost use lib.ListN.{length, drop};
+ghost use Prim.Native.Nat.{_+_, _<_};
+ghost use lib.ListN.{drop};
 ghost use Rattle.rules.specs.Blocks.{zeros, formed, sized, sizedLettered, sizedDirected, small, used, isIn, twins};
-ghost use mathlib.Core.List.{_++_};
 ghost use Rattle.job.specs.Made.{raised, pairOf, inRange, Twenty, Pairs, heldBy, refusedBy, acceptedBy};
-ghost use Rattle.job.specs.Meets.{PutMeets, FamilyOfMeets, IsPlainMeets, IsSquareMeets, IsFencedMeets, IsPairedMeets, JobOfMeets};
+ghost use Rattle.job.specs.Meets.{PutMeets, WideMeets, FamilyOfMeets, IsPlainMeets, IsSquareMeets, IsFencedMeets, IsPairedMeets, JobOfMeets};
+use std::num::wrapping_add_u8;
 
-// A step's letter: `N`, `E` and `D` of families 1 to 5, and `1`, the first digit of families 6 and 7.
-pub struct Step {
-    pub letter: u8,
-}
+// A step's letter: `N`, `E` and `D` of families 1 to 5, and the digits `1` to `8` of families 6 and 7.
+pub struct Step {}
 
 impl Step {
     pub const NORTH: u8 = b'N';
@@ -20,6 +18,8 @@ impl Step {
     pub const DIAGONAL: u8 = b'D';
 
     pub const FIRST: u8 = b'1';
+
+    pub const LAST: u8 = b'8';
 }
 
 // A job: the bytes of its block, with m and each b raised by 128, so that no number is below 0.
@@ -69,30 +69,20 @@ pub fn put(edge: &[u8], out: &mut [u8]) -> Built
     if out.len() < edge.len() {
         return Built::Refused(7);
     }
-    copy(edge, out);
-    Built::Length(edge.len())
-}
-
-fn copy(edge: &[u8], out: &mut [u8])
-    requires { ⌜ length (now edge) ≤ length (now out) ⌝ }
-    ensures { λ _. ⌜ now (out .exit) ≡ now (edge .entry) ++ drop (length (now (edge .entry))) (now (out .entry)) ⌝ }
-{
-    let mut i: usize = 0;
-    while i < edge.len() {
-        out[i] = edge[i];
-        i += 1;
-    }
+    let n = bytes::copy(edge, out);
+    Built::Length(n)
 }
 
 // A byte raised by 128: what is signed there is unsigned here.
 fn raise(x: u8) -> u8
     ensures { λ r. ⌜ r ≡ raised x ⌝ }
 {
-    ((x as u16 + 128) % 256) as u8
+    wrapping_add_u8(x, Job::LEVEL)
 }
 
-fn wide(x: u8) -> usize
-    ensures { λ r. ⌜ r ≡ x ⌝ }
+// A byte as a size.
+pub fn wide(x: u8) -> usize
+    ensures { λ r. ⌜ WideMeets x r ⌝ }
 {
     x as usize
 }
@@ -179,7 +169,7 @@ fn is_formed(block: &[u8]) -> bool
         return all_zero(&block[3..]);
     }
     let k = wide(block[3]);
-    if 8 <= k {
+    if Job::STEPS <= k {
         return true; // no pair is unused
     }
     let from = 4 + 2 * k;
@@ -260,7 +250,7 @@ fn is_sized_directed(block: &[u8]) -> bool
     if k < 1 {
         return false;
     }
-    if 8 < k {
+    if Job::STEPS < k {
         return false;
     }
     is_small(block, k)
@@ -325,7 +315,7 @@ impl Job {
 
     pub const HIGHEST: u8 = 224;
 
-    pub const STEPS: u8 = 8;
+    pub const STEPS: usize = 8;
 
     pub const LONGEST: u8 = 3;
 

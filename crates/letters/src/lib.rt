@@ -1,13 +1,9 @@
 // Which step a byte of an edge stands for: the letters N E D for families 1 to 5, the digits 1 to 8 for families 6 and 7.
 ghost use mathlib.Core.Path.{_≡_};
 ghost use Rattle.letters.specs.Meets.{PlaceOfMeets};
+use job::Job;
 use job::Step;
-
-fn wide(x: u8) -> usize
-    ensures { λ r. ⌜ r ≡ x ⌝ }
-{
-    x as usize
-}
+use job::wide;
 
 // Which step the byte b stands for; 8 where it is no letter.
 pub fn place_of(lettered: bool, b: u8) -> usize
@@ -23,13 +19,13 @@ pub fn place_of(lettered: bool, b: u8) -> usize
         if b == Step::DIAGONAL {
             return 2;
         }
-        return 8;
+        return Job::STEPS;
     }
     if b < Step::FIRST {
-        return 8;
+        return Job::STEPS;
     }
-    if 56 < b {
-        return 8;
+    if Step::LAST < b {
+        return Job::STEPS;
     }
     wide(b) - Step::FIRST as usize
 }

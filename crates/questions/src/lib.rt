@@ -9,6 +9,7 @@ use job::Counted;
 use job::Job;
 use job::Numbered;
 use job::Step;
+use job::wide;
 use walks::Walked;
 
 // Which of two edges is the earlier, or a refusal number.
@@ -78,12 +79,6 @@ fn remembered(fallen: bool, b: u8) -> bool
         return true;
     }
     fallen
-}
-
-fn wide(x: u8) -> usize
-    ensures { λ r. ⌜ r ≡ x ⌝ }
-{
-    x as usize
 }
 
 // The first step that rises after one that falls, in a valid edge of family 6 or 7.

@@ -3,6 +3,7 @@ ghost use mathlib.Core.Path.{_≡_};
 ghost use Prim.Native.Nat.{_≤_};
 ghost use Rattle.walks.specs.Paces.{letteredPaces, pacesOf};
 use job::Job;
+use job::wide;
 
 // What a walk asks of a job: whether its letters are N E D, whether it stays at y ≤ x or at y ≥ 0, its end, with m raised by 128, and its
 // steps (a,b), with b raised by 128.
@@ -15,12 +16,6 @@ pub(crate) struct Paces {
     pub k: usize,
     pub a: [u8; 8],
     pub b: [u8; 8],
-}
-
-fn wide(x: u8) -> usize
-    ensures { λ r. ⌜ r ≡ x ⌝ }
-{
-    x as usize
 }
 
 // The steps of families 1 to 5: N is (0,u), E is (u,0), and D, where k is 3, is (1,1).

@@ -5,18 +5,13 @@ ghost use Rattle.lines.specs.Lines.{cutFrom};
 ghost use Rattle.walks.specs.Paces.{Paced, StopsAs, ChecksAs, letterOf, within};
 use crate::Checked;
 use crate::paces::Paces;
+use job::wide;
 
 // That every step keeps the rules and the last leads to the end; or the first step that doesn't, the length if it is only the end that
 // isn't reached.
 pub(crate) enum Stop {
     Never,
     At(usize),
-}
-
-fn wide(x: u8) -> usize
-    ensures { λ r. ⌜ r ≡ x ⌝ }
-{
-    x as usize
 }
 
 // Which of the k steps a byte is; k if none.
