@@ -38,6 +38,7 @@ module _ (family : ℕ → ℕ → Job) (count : ℕ → ℕ → ℕ) where
     pub diagonal : (n m : ℕ) (e : List ℕ) → Valid (family (suc n) (suc m)) (e ++ (D ∷ []))
         → num (suc n) (suc m) (e ++ (D ∷ [])) ≡ count (suc n) m + count n (suc m) + num n m e
 
+module _ (count : ℕ → ℕ → ℕ) where
   pub record RulesPlainEdge (edge : ℕ → ℕ → ℕ → List ℕ) : Type 0 where
     -- "Each leaf node labeled L(0,m) determines the lattice path that consists of m North-steps"; L(n,0): "of n East-steps"
     pub left : (m : ℕ) → edge 0 m 0 ≡ replicate m N
