@@ -4,11 +4,13 @@
 --
 --   Plainly            what the two families share: their steps, end and counts
 --   number-last, edge-last    what a last step adds, and the edge of a smaller end with a step more
+--   plain-stops        the algorithms, which stop at the rim, give these numbers; plain-rim: as every further sum is 0 there
 --   plain-number-rules, plain-edge-rules    the rules are kept
 --   plain-number-only, plain-edge-only      two functions that keep them agree on valid edges, and on numbers below the count
 use mathlib.Core.Path.{_≡_, refl, sym, ap, ap₂, _∙_, subst, subst₂}
 use mathlib.Core.Bool.{Bool, true, false}
-use mathlib.Core.List.{List, [], _∷_, _++_, reverse, reverse-cons, reverse-reverse}
+use mathlib.Core.Logic.{_⊎_, inl, inr}
+use mathlib.Core.List.{List, [], _∷_, _++_, reverse, reverse-append, reverse-cons, reverse-reverse}
 use Prim.Native.Nat.{ℕ, zero, suc, _+_, _-_, _≤_, _<_}
 use native.Mathlib.Decide.{decLt}
 use native.Mathlib.Omega.{arith}
@@ -29,7 +31,7 @@ use Rattle.rules.specs.Valid.{place, at, walks, Valid}
 use Rattle.rules.specs.Order.{Before}
 use Rattle.rules.specs.Counts.{L, Dl, countOf}
 use Rattle.rules.specs.Numbers.{raised, ending, numberBack, numberOf, edgeOf}
-use Rattle.rules.specs.StepRules.{PlainFamily, RulesPlainNumber, RulesPlainEdge}
+use Rattle.rules.specs.StepRules.{PlainFamily, RulesPlainNumber, rankPlain, RulesPlainEdge}
 use Rattle.rules.specs.StepRules.PlainFamily.{of-north-east, of-delannoy}
 use Rattle.rules.proofs.Letters.{point-eq, same-eq}
 use Rattle.rules.proofs.LastSteps.{Kin, undone-moved, walks-on, walks-known, walks-off, number-snoc}
@@ -212,6 +214,15 @@ module _ (family : ℕ → ℕ → Job) (count : ℕ → ℕ → ℕ) (d : Bool)
       diagonal n m e (in-E q) = absurd (omega arith)
       diagonal n m e (in-D t q) = omega (arith, number-last D 2 n m (suc n) (suc m) (by-D n m t) e, terms-two n m)
 
+  rim : (n m : ℕ) → (n ≡ 0) ⊎ (m ≡ 0) → (e : List ℕ) (b : ℕ) → Valid (family n m) (e ++ (b ∷ []))
+      → sum (λ j. ending (raised count) (endOf (family n m)) (at (stepsOf (family n m)) j)) (place b (stepsOf (family n m))) ≡ 0
+  unfolding numberBack
+  rim n m r e b t = omega (arith, one r, A .all n m .below (e ++ (b ∷ [])) t, rw (reverse-append e (b ∷ [])) at (A .numbers n m (e ++ (b ∷ []))))
+    where
+      one : (n ≡ 0) ⊎ (m ≡ 0) → count n m ≡ 1
+      one (inl z) = rw z (A .left m)
+      one (inr z) = rw z (A .low n)
+
   number-only : (F G : ℕ → ℕ → List ℕ → ℕ) → RulesPlainNumber family count F → RulesPlainNumber family count G → (n m : ℕ) (e : List ℕ) → Valid (family n m) e → F n m e ≡ G n m e
   unfolding Valid walks
   number-only F G f g n m e t = rw reverse-reverse at (go (reverse e) n m (rw reverse-reverse t))
@@ -339,3 +350,35 @@ pub plain-edge-only : {family : ℕ → ℕ → Job} {count : ℕ → ℕ → �
     → (F G : ℕ → ℕ → ℕ → List ℕ) → RulesPlainEdge count F → RulesPlainEdge count G → (n m r : ℕ) → r < count n m → F n m r ≡ G n m r
 plain-edge-only of-north-east = edge-only north-east L false north-east-plainly
 plain-edge-only of-delannoy = edge-only delannoy Dl true delannoy-plainly
+
+-- ---- where the algorithms stop
+
+rank-rules : (family : ℕ → ℕ → Job) (count : ℕ → ℕ → ℕ) → RulesPlainNumber family count (λ n m e. rankPlain count n m (reverse e))
+unfolding rankPlain
+rank-rules family count = record {
+  left = λ m e t. left m (reverse e);
+  low = λ n e t. low n (reverse e);
+  north = λ n m e t. rw (reverse-append e (N ∷ []));
+  east = λ n m e t. rw (reverse-append e (E ∷ []));
+  diagonal = λ n m e t. rw (reverse-append e (D ∷ []));
+}
+  where
+    left : (m : ℕ) (u : List ℕ) → rankPlain count 0 m u ≡ 0
+    left m [] = refl
+    left m (b ∷ u) = refl
+
+    low : (n : ℕ) (u : List ℕ) → rankPlain count n 0 u ≡ 0
+    low n [] = refl
+    low zero (b ∷ u) = refl
+    low (suc n) (b ∷ u) = refl
+
+-- "if n = 0 or m = 0 then r := 0": stopping there gives the same number
+pub plain-stops : {family : ℕ → ℕ → Job} {count : ℕ → ℕ → ℕ} → PlainFamily family count
+    → (n m : ℕ) (e : List ℕ) → Valid (family n m) e → numberOf (family n m) e ≡ rankPlain count n m (reverse e)
+plain-stops {family} {count} P = plain-number-only P (λ n m. numberOf (family n m)) (λ n m e. rankPlain count n m (reverse e)) (plain-number-rules P) (rank-rules family count)
+
+-- as every further sum is 0 there
+pub plain-rim : {family : ℕ → ℕ → Job} {count : ℕ → ℕ → ℕ} → PlainFamily family count → (n m : ℕ) → (n ≡ 0) ⊎ (m ≡ 0) → (e : List ℕ) (b : ℕ) → Valid (family n m) (e ++ (b ∷ []))
+    → sum (λ j. ending (raised count) (endOf (family n m)) (at (stepsOf (family n m)) j)) (place b (stepsOf (family n m))) ≡ 0
+plain-rim of-north-east = rim north-east L false north-east-plainly
+plain-rim of-delannoy = rim delannoy Dl true delannoy-plainly

@@ -3,6 +3,7 @@
 --
 --   PlainFamily family count       families 1 and 3, by their counts
 --   RulesPlainNumber num           the rules of the number num n m e of the edge e to (n,m) (000, algorithms 1 and 5)
+--   rankPlain count n m u          the number by these algorithms as they are written
 --   RulesPlainEdge edge            the rules of the edge edge n m r to (n,m) with the number r (000, algorithms 2 and 6)
 --   digit i                        the letter of step i of families 6 and 7, counted from 0
 --   ending W pairs n m i           how many edges to (n,m) end in step i
@@ -11,9 +12,11 @@
 use mathlib.Core.Path.{_≡_}
 use mathlib.Core.Bool.{Bool}
 use mathlib.Core.List.{List, [], _∷_, _++_}
-use Prim.Native.Nat.{ℕ, suc, _+_, _-_, _<_}
+use Prim.Native.Nat.{ℕ, zero, suc, _+_, _-_, _<_}
+use lib.Dec.{eqb}
 use lib.IntN.{ℤ, pos, _-ℤ_}
 use lib.ListN.{length, replicate}
+use Rattle.howmany.specs.Choose.{pick}
 use Rattle.howmany.specs.Sum.{sum}
 use Rattle.rules.specs.Jobs.{Job, Pair, pairAt, N, E, D, one}
 use Rattle.rules.specs.Jobs.Job.{north-east, delannoy, directed}
@@ -37,6 +40,17 @@ module _ (family : ℕ → ℕ → Job) (count : ℕ → ℕ → ℕ) where
     -- "else r := D(n,m-1) + D(n-1,m) + Rank((v2, ..), n-1, m-1)": the term order of equation 6
     pub diagonal : (n m : ℕ) (e : List ℕ) → Valid (family (suc n) (suc m)) (e ++ (D ∷ []))
         → num (suc n) (suc m) (e ++ (D ∷ [])) ≡ count (suc n) m + count n (suc m) + num n m e
+
+-- the algorithms themselves, which stop at the rim: u is the edge from its last step backwards
+unfoldable pub rankPlain : (ℕ → ℕ → ℕ) → ℕ → ℕ → List ℕ → ℕ
+rankPlain count n m [] = 0
+rankPlain count zero m (b ∷ u) = 0
+rankPlain count (suc n) zero (b ∷ u) = 0
+rankPlain count (suc n) (suc m) (b ∷ u) =
+    let north = rankPlain count (suc n) m u in
+    let east = count (suc n) m + rankPlain count n (suc m) u in
+    let diagonal = count (suc n) m + count n (suc m) + rankPlain count n m u in
+    pick (eqb b N) north (pick (eqb b E) east diagonal)
 
 module _ (count : ℕ → ℕ → ℕ) where
   pub record RulesPlainEdge (edge : ℕ → ℕ → ℕ → List ℕ) : Type 0 where
