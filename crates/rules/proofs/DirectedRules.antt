@@ -22,7 +22,7 @@ use Rattle.rules.specs.Jobs.Job.{directed}
 use Rattle.rules.specs.Valid.{place, at, walks, Valid}
 use Rattle.rules.specs.Counts.{W, from, under, RulesW, countOf}
 use Rattle.rules.specs.Numbers.{numberBack, edgeBack, numberOf, edgeOf}
-use Rattle.rules.specs.StepRules.{digit, ending, RulesDirectedNumber, RulesDirectedEdge}
+use Rattle.rules.specs.StepRules.{digit, brings, RulesDirectedNumber, RulesDirectedEdge}
 use Rattle.rules.proofs.Ranges.{Small}
 use Rattle.rules.proofs.Letters.{place-letter, point-eq, same-eq}
 use Rattle.rules.proofs.Slopes.{digit-at, digit-place, numbered-length}
@@ -51,7 +51,7 @@ module _ (fenced : Bool) (s : ℕ) (pairs : List Pair) where
   b i = pairAt pairs i .b
 
   kin : (x n : ℕ) (y m : ℤ) → Kin (job x y) (job n m)
-  kin x n y m = record { steps = refl; start = refl; stay = λ p. refl }
+  kin x n y m = record { steps = refl; stay = λ p. refl }
 
   -- the end without step i
   end-off : (n : ℕ) (m : ℤ) (i : ℕ) → i < length pairs → endOf (job (n - a i) (m -ℤ b i)) ≡ undone (endOf (job n m)) (at steps i)
@@ -67,7 +67,7 @@ module _ (fenced : Bool) (s : ℕ) (pairs : List Pair) where
   directed-number-rules = record { start = refl; others = λ n m e i l t. others n m e i l }
     where
       others : (n : ℕ) (m : ℤ) (e : List ℕ) (i : ℕ) → i < length pairs
-          → numberOf (job n m) (e ++ (digit i ∷ [])) ≡ sum (ending (W fenced s pairs) pairs n m) i + numberOf (job (n - a i) (m -ℤ b i)) e
+          → numberOf (job n m) (e ++ (digit i ∷ [])) ≡ sum (brings (W fenced s pairs) pairs n m) i + numberOf (job (n - a i) (m -ℤ b i)) e
       others n m e i l =
           number-snoc (job (n - a i) (m -ℤ b i)) (job n m) (kin (n - a i) n (m -ℤ b i) m) (W fenced s pairs) (digit i) i e (digit-place one pairs i l) (end-off n m i l)
           ∙ ap (λ (x : ℕ). x + numberOf (job (n - a i) (m -ℤ b i)) e)
@@ -105,7 +105,7 @@ module _ (fenced : Bool) (s : ℕ) (pairs : List Pair) where
               let v : Valid (job n m) (reverse u ++ (digit i ∷ [])) = rw q t′ in
               rw (reverse-cons c u, ← q)
               (f .others n m (reverse u) i l v
-              ∙ ap (λ (x : ℕ). sum (ending (W fenced s pairs) pairs n m) i + x) (ih (n - a i) (m -ℤ b i) w)
+              ∙ ap (λ (x : ℕ). sum (brings (W fenced s pairs) pairs n m) i + x) (ih (n - a i) (m -ℤ b i) w)
               ∙ sym (g .others n m (reverse u) i l v))
 
   module _ (S : Small pairs) where
@@ -125,8 +125,8 @@ module _ (fenced : Bool) (s : ℕ) (pairs : List Pair) where
         go false h = (tt, tt)
 
     -- the edge of a smaller job, with one step more
-    longer : (n : ℕ) (m : ℤ) (i r : ℕ) → i < length pairs → r < ending (W fenced s pairs) pairs n m i → sum (ending (W fenced s pairs) pairs n m) i + r < W fenced s pairs n m
-        → edgeOf (job n m) (sum (ending (W fenced s pairs) pairs n m) i + r) ≡ edgeOf (job (n - a i) (m -ℤ b i)) r ++ (digit i ∷ [])
+    longer : (n : ℕ) (m : ℤ) (i r : ℕ) → i < length pairs → r < brings (W fenced s pairs) pairs n m i → sum (brings (W fenced s pairs) pairs n m) i + r < W fenced s pairs n m
+        → edgeOf (job n m) (sum (brings (W fenced s pairs) pairs n m) i + r) ≡ edgeOf (job (n - a i) (m -ℤ b i)) r ++ (digit i ∷ [])
     unfolding Valid countOf
     longer n m i r l h q =
         let K : Job = job (n - a i) (m -ℤ b i) in
@@ -136,9 +136,9 @@ module _ (fenced : Bool) (s : ℕ) (pairs : List Pair) where
         let e : List ℕ = edgeOf K r in
         let t : Valid J (e ++ (digit i ∷ [])) =
         walks-on K J (kin (n - a i) n (m -ℤ b i) m) (digit i) (rw (z, numbered-length one pairs) l) (rw z (end-on n m i l (w .0)))
-        (above n m (sum (ending (W fenced s pairs) pairs n m) i + r) q .1) e (startOf K) (numbering K S .has r (w .1)) in
-        let v : numberOf J (e ++ (digit i ∷ [])) ≡ sum (ending (W fenced s pairs) pairs n m) i + r =
-        directed-number-rules .others n m e i l t ∙ ap (λ (x : ℕ). sum (ending (W fenced s pairs) pairs n m) i + x) (numbering K S .there r (w .1)) in
+        (above n m (sum (brings (W fenced s pairs) pairs n m) i + r) q .1) e (startOf K) (numbering K S .has r (w .1)) in
+        let v : numberOf J (e ++ (digit i ∷ [])) ≡ sum (brings (W fenced s pairs) pairs n m) i + r =
+        directed-number-rules .others n m e i l t ∙ ap (λ (x : ℕ). sum (brings (W fenced s pairs) pairs n m) i + x) (numbering K S .there r (w .1)) in
         ap (edgeOf J) (sym v) ∙ numbering J S .back (e ++ (digit i ∷ [])) t
 
     pub directed-edge-rules : RulesDirectedEdge fenced s pairs (λ n m. edgeOf (job n m))
@@ -159,7 +159,7 @@ module _ (fenced : Bool) (s : ℕ) (pairs : List Pair) where
         go : (n : ℕ) → ((x : ℕ) → x < n → Agree x) → Agree n
         go zero ih m r l = first m r l (ℤ-discrete m (pos s))
         go (suc n) ih m r l =
-            let t : ℕ → ℕ = ending (W fenced s pairs) pairs (suc n) m in
+            let t : ℕ → ℕ = brings (W fenced s pairs) pairs (suc n) m in
             let i : ℕ = find t (length pairs) r in
             let p : Falls t (length pairs) r i = find-falls t (length pairs) r (omega (arith, counts .others (suc n) m (omega arith) (above (suc n) m r l .0))) in
             let h : r - sum t i < t i = omega (arith, p .low, p .high) in

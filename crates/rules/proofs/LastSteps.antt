@@ -17,14 +17,13 @@ use lib.ListN.{length}
 use Rattle.howmany.specs.Sum.{sum}
 use Rattle.howmany.proofs.Choices.{and-left, and-right, and-both}
 use Rattle.rules.specs.Points.{Point, Step, same, moved, undone}
-use Rattle.rules.specs.Jobs.{Job, stepsOf, startOf, endOf, stays}
+use Rattle.rules.specs.Jobs.{Job, stepsOf, endOf, stays}
 use Rattle.rules.specs.Valid.{place, at, walks}
 use Rattle.rules.specs.Numbers.{ending, numberBack}
 use Rattle.rules.proofs.Letters.{point-eq, same-eq, same-refl}
 
 pub record Kin (K J : Job) : Type 0 where
   pub steps : stepsOf K ≡ stepsOf J
-  pub start : startOf K ≡ startOf J
   pub stay : (p : Point) → stays K p ≡ stays J p
 
 pub undone-moved : (p : Point) (s : Step) → undone (moved p s) s ≡ p

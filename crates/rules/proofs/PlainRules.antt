@@ -112,11 +112,7 @@ module _ (family : ℕ → ℕ → Job) (count : ℕ → ℕ → ℕ) (d : Bool)
   ss = plainSteps d
 
   kin : (x y n m : ℕ) → Kin (family x y) (family n m)
-  kin x y n m = record {
-    steps = A .steps x y ∙ sym (A .steps n m);
-    start = A .start x y ∙ sym (A .start n m);
-    stay = λ p. A .free x y p ∙ sym (A .free n m p);
-  }
+  kin x y n m = record { steps = A .steps x y ∙ sym (A .steps n m); stay = λ p. A .free x y p ∙ sym (A .free n m p) }
 
   -- the step i, whose letter is b, leads from (x,y) to (n,m)
   record Leads (b i x y n m : ℕ) : Type 0 where

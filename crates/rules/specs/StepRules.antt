@@ -6,7 +6,7 @@
 --   rankPlain count n m u          the number by these algorithms as they are written
 --   RulesPlainEdge edge            the rules of the edge edge n m r to (n,m) with the number r (000, algorithms 2 and 6)
 --   digit i                        the letter of step i of families 6 and 7, counted from 0
---   ending W pairs n m i           how many edges to (n,m) end in step i
+--   brings W pairs n m i           what step i brings to the count: how many edges to (n,m) end in it
 --   RulesDirectedNumber num        families 6 and 7, with a start at (0,s): the number num n m e of the edge e to (n,m) (001, algorithm 7)
 --   RulesDirectedEdge edge         the edge edge n m r to (n,m) with the number r (001, algorithm 8)
 use mathlib.Core.Path.{_≡_}
@@ -70,8 +70,8 @@ abbrev pub digit : ℕ → ℕ
 digit i = one + i
 
 -- W(n-a, m-b) for that step
-abbrev pub ending : (ℕ → ℤ → ℕ) → List Pair → ℕ → ℤ → ℕ → ℕ
-ending W pairs n m i = from W n m (pairAt pairs i .a) (pairAt pairs i .b)
+abbrev pub brings : (ℕ → ℤ → ℕ) → List Pair → ℕ → ℤ → ℕ → ℕ
+brings W pairs n m i = from W n m (pairAt pairs i .a) (pairAt pairs i .b)
 
 module _ (fenced : Bool) (s : ℕ) (pairs : List Pair) where
   pub record RulesDirectedNumber (num : ℕ → ℤ → List ℕ → ℕ) : Type 0 where
@@ -80,12 +80,12 @@ module _ (fenced : Bool) (s : ℕ) (pairs : List Pair) where
     -- "I := index of ps_l in the ordered set S; sum := the sum for i below I of W(n-a_i, m-b_i); r := sum + Rank((ps_1, .., ps_(l-1)), n-a_I,
     -- m-b_I)"
     pub others : (n : ℕ) (m : ℤ) (e : List ℕ) (i : ℕ) → i < length pairs → Valid (directed fenced n m s pairs) (e ++ (digit i ∷ []))
-        → num n m (e ++ (digit i ∷ [])) ≡ sum (ending (W fenced s pairs) pairs n m) i + num (n - pairAt pairs i .a) (m -ℤ pairAt pairs i .b) e
+        → num n m (e ++ (digit i ∷ [])) ≡ sum (brings (W fenced s pairs) pairs n m) i + num (n - pairAt pairs i .a) (m -ℤ pairAt pairs i .b) e
 
   pub record RulesDirectedEdge (edge : ℕ → ℤ → ℕ → List ℕ) : Type 0 where
     -- "if n = 0 and m = 0 then P := ()"
     pub start : edge 0 (pos s) 0 ≡ []
     -- "if sum + s > r then r := r - sum, I := i": the number is the sum for i below I, and r, below the term for I
-    pub others : (n : ℕ) (m : ℤ) (i r : ℕ) → i < length pairs → r < ending (W fenced s pairs) pairs n m i
-        → sum (ending (W fenced s pairs) pairs n m) i + r < W fenced s pairs n m
-        → edge n m (sum (ending (W fenced s pairs) pairs n m) i + r) ≡ edge (n - pairAt pairs i .a) (m -ℤ pairAt pairs i .b) r ++ (digit i ∷ [])
+    pub others : (n : ℕ) (m : ℤ) (i r : ℕ) → i < length pairs → r < brings (W fenced s pairs) pairs n m i
+        → sum (brings (W fenced s pairs) pairs n m) i + r < W fenced s pairs n m
+        → edge n m (sum (brings (W fenced s pairs) pairs n m) i + r) ≡ edge (n - pairAt pairs i .a) (m -ℤ pairAt pairs i .b) r ++ (digit i ∷ [])
