@@ -10,12 +10,13 @@
 use mathlib.Core.Path.{_≡_, refl, sym, ap, ap₂, _∙_, subst, subst₂}
 use mathlib.Core.Bool.{Bool, true, false}
 use mathlib.Core.Logic.{_⊎_, inl, inr}
-use mathlib.Core.List.{List, [], _∷_, _++_}
+use mathlib.Core.List.{List, [], _∷_, _++_, append-assoc, reverse, reverse-append, reverse-reverse}
 use Prim.Native.Nat.{ℕ, zero, suc, _+_, _-_, _*_, _/_, _%_, _≤_, _<_}
 use native.Mathlib.Nat.{mod-add-div, mod-lt, div-lt-iff-lt-mul, mul-comm}
 use native.Mathlib.Decide.{decLe, decLt}
 use native.Mathlib.Omega.{arith}
 use lib.Dec.{T}
+use lib.ListN.{length, length-append}
 use Rattle.howmany.specs.Sum.{sum, find, Falls}
 use Rattle.howmany.proofs.Sums.{find-falls}
 use Rattle.arches.specs.Counts.{ifD, count, before}
@@ -34,6 +35,16 @@ use Rattle.rules.specs.ArchRules.{ArchFamily, products, Splits, RulesArc
 use Rattle.rules.specs.ArchRules.ArchFamily.{of-dyck, of-schroder, of-motzkin}
 use Rattle.rules.proofs.ArchPaths.{Arched, printed, print-valid, has-D, ends-dee, ends-arch, tree-size, ends-in-D, ends-in-arch, arched, dyck-arched, schroder-arched, motzkin-arched}
 use Rattle.rules.proofs.Recurrences.{complete}
+
+-- two strings that end in a byte are equal in it and before it
+same-last : (p q : List ℕ) (b c : ℕ) → p ++ (b ∷ []) ≡ q ++ (c ∷ []) → (p ≡ q) × (b ≡ c)
+same-last p q b c e =
+    let h : b ∷ reverse p ≡ c ∷ reverse q = sym (reverse-append p (b ∷ [])) ∙ ap reverse e ∙ reverse-append q (c ∷ []) in
+    let r : reverse p ≡ reverse q = cc in
+    (sym (reverse-reverse p) ∙ ap reverse r ∙ reverse-reverse q, cc)
+
+some-last : (p : List ℕ) (b : ℕ) → p ++ (b ∷ []) ≡ [] → ⊥
+some-last p b e = omega (arith, length-append p (b ∷ []), ap length e)
 
 module _ (family : ℕ → Job) (d : Bool) (v : ℕ) (A : Arched family d v) where
   -- ---- how a path ends: the trees of what it is made of
@@ -109,9 +120,28 @@ module _ (family : ℕ → Job) (d : Bool) (v : ℕ) (A : Arched family d v) whe
   tree-ends (dee p t) h = inl (print d v t, ends-in-D family d v A p t)
   tree-ends (arch f i) h = inr (size d v f, print d v f, print d v i, ends-in-arch family d v A f i)
 
+  -- a path that has a last step, by its two endings
+  tell : (n b : ℕ) (p : List ℕ) → Valid (family n) (p ++ (b ∷ [])) → Ends (p ++ (b ∷ []))
+  tell n b p t = let a = printed family d v A n (p ++ (b ∷ [])) t in subst Ends (a .prints) (tree-ends (a .tree) (λ e. some-last p b (sym (a .prints) ∙ e)))
+
+  last-D : (p : List ℕ) → Ends (p ++ (D ∷ [])) → EndsInD family (p ++ (D ∷ [])) p
+  last-D p (inl (q, e)) = subst (EndsInD family (p ++ (D ∷ []))) (sym (same-last p q D D (e .shape) .0)) e
+  last-D p (inr (I, f, i, e)) = absurd (omega (arith, same-last p (f ++ (E ∷ i)) D N (e .shape ∙ sym (append-assoc f (E ∷ i) (N ∷ []))) .1))
+
+  last-N : (p : List ℕ) → Ends (p ++ (N ∷ [])) → (I : ℕ) × (f : List ℕ) × (i : List ℕ) × EndsInArch family (p ++ (N ∷ [])) I f i
+  last-N p (inl (q, e)) = absurd (omega (arith, same-last p q N D (e .shape) .1))
+  last-N p (inr e) = e
+
+  last-E : (p : List ℕ) → Ends (p ++ (E ∷ [])) → ⊥
+  last-E p (inl (q, e)) = omega (arith, same-last p q E D (e .shape) .1)
+  last-E p (inr (I, f, i, e)) = omega (arith, same-last p (f ++ (E ∷ i)) E N (e .shape ∙ sym (append-assoc f (E ∷ i) (N ∷ []))) .1)
+
   splits : Splits family d (suc v)
   splits = record {
     ends = λ n s t h. let a = printed family d v A n s t in subst Ends (a .prints) (tree-ends (a .tree) (λ e. h (sym (a .prints) ∙ e)));
+    last-D = λ n p t. last-D p (tell n D p t);
+    last-N = λ n p t. last-N p (tell n N p t);
+    last-E = λ n p t. last-E p (tell n E p t);
     one = λ e g.
         let a = of-D e in
         let b = of-arch g in

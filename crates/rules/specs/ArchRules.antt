@@ -35,6 +35,10 @@ module _ (family : ℕ → Job) (d : Bool) (w : ℕ) where
     -- step and `E` its partner."
     pub ends : (n : ℕ) (s : List ℕ) → Valid (family n) s → s ≢ []
         → ((p : List ℕ) × EndsInD family s p) ⊎ ((I : ℕ) × (f : List ℕ) × (i : List ℕ) × EndsInArch family s I f i)
+    -- which of the two the last step says, and no path ends in `E`
+    pub last-D : (n : ℕ) (p : List ℕ) → Valid (family n) (p ++ (D ∷ [])) → EndsInD family (p ++ (D ∷ [])) p
+    pub last-N : (n : ℕ) (p : List ℕ) → Valid (family n) (p ++ (N ∷ [])) → (I : ℕ) × (f : List ℕ) × (i : List ℕ) × EndsInArch family (p ++ (N ∷ [])) I f i
+    pub last-E : (n : ℕ) (p : List ℕ) → Valid (family n) (p ++ (E ∷ [])) → ⊥
     -- "either": never both
     pub one : {s p f i : List ℕ} {I : ℕ} → EndsInD family s p → EndsInArch family s I f i → ⊥
     -- "the first part", "the inside", "I": a path has one of each
