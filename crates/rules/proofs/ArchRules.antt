@@ -120,9 +120,8 @@ module _ (family : ℕ → Job) (d : Bool) (v : ℕ) (A : Arched family d v) whe
   tree-ends (dee p t) h = inl (print d v t, ends-in-D family d v A p t)
   tree-ends (arch f i) h = inr (size d v f, print d v f, print d v i, ends-in-arch family d v A f i)
 
-  -- a path that has a last step, by its two endings
-  tell : (n b : ℕ) (p : List ℕ) → Valid (family n) (p ++ (b ∷ [])) → Ends (p ++ (b ∷ []))
-  tell n b p t = let a = printed family d v A n (p ++ (b ∷ [])) t in subst Ends (a .prints) (tree-ends (a .tree) (λ e. some-last p b (sym (a .prints) ∙ e)))
+  ends : (n : ℕ) (s : List ℕ) → Valid (family n) s → (s ≡ [] → ⊥) → Ends s
+  ends n s t h = let a = printed family d v A n s t in subst Ends (a .prints) (tree-ends (a .tree) (λ e. h (sym (a .prints) ∙ e)))
 
   last-D : (p : List ℕ) → Ends (p ++ (D ∷ [])) → EndsInD family (p ++ (D ∷ [])) p
   last-D p (inl (q, e)) = subst (EndsInD family (p ++ (D ∷ []))) (sym (same-last p q D D (e .shape) .0)) e
@@ -138,10 +137,10 @@ module _ (family : ℕ → Job) (d : Bool) (v : ℕ) (A : Arched family d v) whe
 
   splits : Splits family d (suc v)
   splits = record {
-    ends = λ n s t h. let a = printed family d v A n s t in subst Ends (a .prints) (tree-ends (a .tree) (λ e. h (sym (a .prints) ∙ e)));
-    last-D = λ n p t. last-D p (tell n D p t);
-    last-N = λ n p t. last-N p (tell n N p t);
-    last-E = λ n p t. last-E p (tell n E p t);
+    ends = ends;
+    last-D = λ n p t. last-D p (ends n (p ++ (D ∷ [])) t (some-last p D));
+    last-N = λ n p t. last-N p (ends n (p ++ (N ∷ [])) t (some-last p N));
+    last-E = λ n p t. last-E p (ends n (p ++ (E ∷ [])) t (some-last p E));
     one = λ e g.
         let a = of-D e in
         let b = of-arch g in

@@ -34,18 +34,13 @@ use Rattle.rules.specs.Numbers.{raised, ending, numberBack, numberOf, ed
 use Rattle.rules.specs.StepRules.{PlainFamily, RulesPlainNumber, rankPlain, RulesPlainEdge}
 use Rattle.rules.specs.StepRules.PlainFamily.{of-north-east, of-delannoy}
 use Rattle.rules.proofs.Letters.{point-eq, same-eq}
+use Rattle.rules.proofs.Plains.{L-rim, D-rim}
+use Rattle.rules.proofs.ArchPaths.{ifDiag, point}
 use Rattle.rules.proofs.LastSteps.{Kin, undone-moved, walks-on, walks-known, walks-off, number-snoc}
 use Rattle.rules.proofs.Demand3.{numbering}
 
-abbrev diagonals : Bool → List Step
-diagonals true = step D 1 (pos 1) ∷ []
-diagonals false = []
-
 abbrev plainSteps : Bool → List Step
-plainSteps d = step N 0 (pos 1) ∷ step E 1 (pos 0) ∷ diagonals d
-
-abbrev point : ℕ → ℕ → Point
-point x y = record { x = x; y = pos y }
+plainSteps d = step N 0 (pos 1) ∷ step E 1 (pos 0) ∷ ifDiag d
 
 record Plainly (family : ℕ → ℕ → Job) (count : ℕ → ℕ → ℕ) (d : Bool) : Type 0 where
   steps : (n m : ℕ) → stepsOf (family n m) ≡ plainSteps d
@@ -68,13 +63,9 @@ north-east-plainly = record {
   numbers = λ n m e. refl;
   all = λ n m. numbering (north-east n m) tt;
   left = λ m. refl;
-  low = low;
+  low = L-rim;
   others = λ n m. omega arith;
 }
-  where
-    low : (n : ℕ) → L n 0 ≡ 1
-    low zero = refl
-    low (suc n) = refl
 
 delannoy-plainly : Plainly delannoy Dl true
 unfolding numberOf Dl countOf
@@ -86,13 +77,9 @@ delannoy-plainly = record {
   numbers = λ n m e. refl;
   all = λ n m. numbering (delannoy n m) tt;
   left = λ m. refl;
-  low = low;
+  low = D-rim;
   others = λ n m. refl;
 }
-  where
-    low : (n : ℕ) → Dl n 0 ≡ 1
-    low zero = refl
-    low (suc n) = refl
 
 -- what a last step adds: the counts at the points before the earlier ones
 term : (K : ℕ → ℕ → ℕ) (x y a c l n m : ℕ) → x + a ≡ n → y + c ≡ m → ending (raised K) (point n m) (step l a (pos c)) ≡ K x y
@@ -177,7 +164,7 @@ module _ (family : ℕ → ℕ → Job) (count : ℕ → ℕ → ℕ) (d : Bool)
       diagonal false h t l = absurd (omega arith)
 
       go : (p : Bool) → (T p → b ≡ N) → (q : Bool) → (T q → b ≡ E) → (c : Bool) → d ≡ c
-          → pick p 0 (suc (pick q 0 (suc (place b (diagonals d))))) < suc (suc (length (diagonals d))) → Last b
+          → pick p 0 (suc (pick q 0 (suc (place b (ifDiag d))))) < suc (suc (length (ifDiag d))) → Last b
       go true h q k c e l = in-N (h tt)
       go false h true k c e l = in-E (k tt)
       go false h false k false e l = let w : 3 ≤ 2 = rw e at l in absurd (omega arith)

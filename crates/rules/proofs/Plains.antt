@@ -4,7 +4,7 @@
 --   PlainSteps               each step (a, b) of the family is (a + b, b) in the grid
 --   no-walks               no walks lead above the diagonal
 --   plain-shear, plain-counted    what the theorem asks, from the steps and from the counts
---   L-agrees, D-agrees     the counts
+--   L-rim, D-rim, L-agrees, D-agrees    the counts
 --   north-east-shear, delannoy-shear, north-east-counted, delannoy-counted
 use mathlib.Core.Path.{_≡_, refl, sym, ap, ap₂, _∙_}
 use mathlib.Core.Bool.{Bool, true, false}
@@ -153,7 +153,7 @@ north-east-plain n m = record {
   up = two (λ i. at (stepsOf (north-east n m)) i .b ≡ pos (northEastGrid .c i)) refl refl;
 }
 
-L-rim : (n : ℕ) → L n 0 ≡ 1
+pub L-rim : (n : ℕ) → L n 0 ≡ 1
 unfolding L
 L-rim zero = refl
 L-rim (suc n) = refl
@@ -221,7 +221,7 @@ delannoy-plain n m = record {
   up = three (λ i. at (stepsOf (delannoy n m)) i .b ≡ pos (delannoyGrid .c i)) refl refl refl;
 }
 
-D-rim : (n : ℕ) → Dl n 0 ≡ 1
+pub D-rim : (n : ℕ) → Dl n 0 ≡ 1
 unfolding Dl
 D-rim zero = refl
 D-rim (suc n) = refl
