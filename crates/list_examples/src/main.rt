@@ -1,0 +1,79 @@
+// Lists of edges and of numbers, engine by engine, with what is lent shown afterwards; and every small public function: one answer a line.
+mod asked; // asked.rt: a list asked of every engine
+mod blocks; // blocks.rt: job blocks
+mod say; // say.rt: answers as words of text
+mod small; // small.rt: letters, families, room, parts, walks
+
+// Two edges, the second no edge, none at all, and more than there is room for.
+fn strings(block: &[u8], two: &[u8], half: usize, wrong: &[u8]) {
+    asked::numbers(block, two, 0, &[half, two.len()]);
+    asked::numbers(block, two, half, &[two.len()]);
+    asked::numbers(block, wrong, 0, &[half, wrong.len()]);
+    asked::numbers(block, two, 0, &[]);
+    asked::numbers(block, two, 0, &[half, half, half, half]);
+}
+
+// Two numbers, one beyond, none, and more than there is room for.
+fn lists(block: &[u8]) {
+    asked::edges(block, &[1, 0]);
+    asked::edges(block, &[0, 99]);
+    asked::edges(block, &[]);
+    asked::edges(block, &[0, 0, 0, 0]);
+}
+
+fn each(block: &[u8]) {
+    asked::counts(block);
+    lists(block);
+}
+
+fn squares() {
+    let dyck = blocks::lettered(2, 2, 2);
+    strings(&dyck, b"EENNENEN", 4, b"EENNEENE");
+    each(&dyck);
+    let schroder = blocks::lettered(4, 2, 2);
+    strings(&schroder, b"EENNEDN", 4, b"EENNEDE");
+    each(&schroder);
+    let motzkin = blocks::lettered(5, 2, 2);
+    strings(&motzkin, b"ENDD", 2, b"ENDE");
+    each(&motzkin);
+}
+
+fn plain() {
+    let north = blocks::lettered(1, 1, 1);
+    strings(&north, b"ENNE", 2, b"ENEE");
+    each(&north);
+    let delannoy = blocks::lettered(3, 1, 1);
+    strings(&delannoy, b"END", 2, b"ENF");
+    each(&delannoy);
+}
+
+fn paired() {
+    let open = blocks::with_t(6, 2, 0);
+    strings(&open, b"1322", 2, b"1323");
+    each(&open);
+    let fenced = blocks::with_t(7, 2, 0);
+    strings(&fenced, b"3122", 2, b"2213");
+    each(&fenced);
+}
+
+// Refusals, counts that don't fit, and a job with none though many of its cells don't fit.
+fn refused() {
+    each(b"");
+    each(&blocks::lettered(8, 1, 1));
+    each(&blocks::lettered(1, 65, 0));
+    each(&blocks::lettered(2, 65, 65));
+    each(&blocks::with_t(6, 33, 0));
+    each(&blocks::lettered(1, 34, 34));
+    each(&blocks::lettered(2, 37, 37));
+    each(&blocks::block(6, 32, 0, 7, blocks::SEVEN));
+    each(&blocks::block(6, 32, 96, 7, blocks::SEVEN));
+    each(&blocks::block(6, 32, 1, 7, blocks::EVEN));
+}
+
+fn main() {
+    squares();
+    plain();
+    paired();
+    refused();
+    small::run();
+}
