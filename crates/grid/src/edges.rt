@@ -1,15 +1,16 @@
-// Edges of families 6 and 7 from their end backwards: the number of an edge, and the edge of a number.
+// Edges of families 6 and 7 from their end backwards: the number of an edge, and the edge of a number. A step that leads out of the grid ends in a
+// zero, below a column or in front of all, so that the cell and the steps' offsets say all.
 ghost use mathlib.Core.Path.{_≡_};
 ghost use mathlib.Core.Bool.{false};
-ghost use Prim.Native.Nat.{_≤_, _<_};
-ghost use lib.ListN.{length, drop};
+ghost use Prim.Native.Nat.{_-_, _≤_, _<_};
+ghost use lib.ListN.{length, getD, drop};
 ghost use Rattle.howmany.specs.Sum.{sum};
 ghost use Rattle.letters.specs.Letters.{glyphOf};
-ghost use Rattle.tables.specs.Cells.{sourceOf};
 ghost use Rattle.tables.specs.Edges.{broughtAt, Summed, Sought};
-ghost use Rattle.tables.specs.Plans.{walksFor, RankFor, edgeFor};
-ghost use Rattle.tables.specs.Filling.{Readable};
-use crate::column::source;
+ghost use Rattle.tables.specs.Plans.{endFor, RankFor, edgeFor};
+ghost use Rattle.tables.specs.Filling.{Legible, BySteps};
+use crate::plan::end_of;
+use crate::plan::start_of;
 use job::Step;
 use letters::place_of;
 use lines::Rank;
@@ -23,15 +24,24 @@ fn glyph_of(i: usize) -> u8
     (i + Step::FIRST as usize) as u8
 }
 
-// What the first l steps bring to the cell at `at` of column x.
-fn part_sum(val: &[u64], sa: &[usize; 8], off: &[usize; 8], x: usize, at: usize, l: usize) -> u64
-    requires { ⌜ Summed l (now sa) (now off) (now val) x at ⌝ }
-    ensures { λ r. ⌜ r ≡ sum (broughtAt (now (sa .entry)) (now (off .entry)) (now (val .entry)) x at) l ⌝ }
+// The cell that step i comes from, if it leads to the one at `at`; the first, which is a zero, where that would be before the table.
+fn back(off: &[usize; 8], i: usize, at: usize) -> usize
+    requires { ⌜ i < 8 ⌝ }
+    ensures { λ r. ⌜ r ≡ at - getD (now (off .entry)) i 0 ⌝ }
+{
+    let o = off[i];
+    if at < o { 0 } else { at - o }
+}
+
+// What the first l steps bring to the cell at `at`.
+fn part_sum(val: &[u64], off: &[usize; 8], at: usize, l: usize) -> u64
+    requires { ⌜ Summed l (now off) (now val) at ⌝ }
+    ensures { λ r. ⌜ r ≡ sum (broughtAt (now (off .entry)) (now (val .entry)) at) l ⌝ }
 {
     let mut acc: u64 = 0;
     let mut i = 0;
     while i < l {
-        let s = source(sa, off, i, x, at);
+        let s = back(off, i, at);
         acc += val[s];
         i += 1;
     }
@@ -39,46 +49,31 @@ fn part_sum(val: &[u64], sa: &[usize; 8], off: &[usize; 8], x: usize, at: usize,
 }
 
 // The number of the edge e (001, algorithm 7), or that e is none. Until that is known the sum fits all the same: with the
-// walks to (x, y) it is no more than the count.
-pub(crate) fn read(
-    val: &[u64],
-    sa: &[usize; 8],
-    sc: &[usize; 8],
-    off: &[usize; 8],
-    p: Plan,
-    e: &[u8],
-) -> Rank
-    requires { ⌜ Readable p (now sa) (now sc) (now off) (now val) ⌝ }
-    ensures { λ r. ⌜ RankFor false p (now (sa .entry)) (now (sc .entry)) (now (e .entry)) r ⌝ }
+// walks to the cell at `at` it is no more than the count.
+pub(crate) fn read(val: &[u64], off: &[usize; 8], p: Plan, e: &[u8]) -> Rank
+    requires { ⌜ Legible p (now off) (now val) ⌝ }
+    ensures { λ r. ⌜ BySteps p (now (off .entry)) (now (val .entry)) (λ sa sc. RankFor false p sa sc (now (e .entry)) r) ⌝ }
 {
     let mut acc: u64 = 0;
-    let mut x = p.ex;
-    let mut y = p.ey;
-    let mut at = (p.ex + 1) * (p.deep + p.ey + 1) + p.deep + p.ey;
+    let mut at = end_of(p);
     let mut i = e.len();
+    if val[at] == 0 {
+        return Rank::NoEdge; // no walk leads to the end
+    }
     while 0 < i {
         i -= 1;
         let l = place_of(false, e[i]);
-        if val[at] == 0 {
-            return Rank::NoEdge; // no walk leads there
-        }
         if p.k <= l {
             return Rank::NoEdge;
         }
-        let a = sa[l];
-        if x < a {
-            return Rank::NoEdge;
+        let from = back(off, l, at);
+        if val[from] == 0 {
+            return Rank::NoEdge; // no walk leads there
         }
-        let c = sc[l];
-        if y < c {
-            return Rank::NoEdge;
-        }
-        acc += part_sum(val, sa, off, x, at, l);
-        x -= a;
-        y -= c;
-        at -= off[l];
+        acc += part_sum(val, off, at, l);
+        at = from;
     }
-    if 0 < x + y {
+    if at != start_of(p) {
         return Rank::NoEdge;
     }
     Rank::At(acc)
@@ -91,25 +86,17 @@ pub(crate) struct Pick {
     pub(crate) from: usize,
 }
 
-// The last step of number r among the walks that the cell at `at` of column x counts. It is one of the first k; the loop is over all eight, so that the
+// The last step of number r among the walks that the cell at `at` counts. It is one of the first k; the loop is over all eight, so that the
 // compiler unrolls it.
-fn seek(
-    val: &[u64],
-    sa: &[usize; 8],
-    off: &[usize; 8],
-    k: usize,
-    x: usize,
-    at: usize,
-    r: u64,
-) -> Pick
-    requires { ⌜ Summed k (now sa) (now off) (now val) x at ⌝ }
-    requires { ⌜ r < sum (broughtAt (now sa) (now off) (now val) x at) k ⌝ }
-    ensures { λ q. ⌜ Sought (broughtAt (now (sa .entry)) (now (off .entry)) (now (val .entry)) x at) k r (q .letter) (q .rest) × (q .from ≡ sourceOf (now (sa .entry)) (now (off .entry)) x at (q .letter)) ⌝ }
+fn seek(val: &[u64], off: &[usize; 8], k: usize, at: usize, r: u64) -> Pick
+    requires { ⌜ Summed k (now off) (now val) at ⌝ }
+    requires { ⌜ r < sum (broughtAt (now off) (now val) at) k ⌝ }
+    ensures { λ q. ⌜ Sought (broughtAt (now (off .entry)) (now (val .entry)) at) k r (q .letter) (q .rest) × (q .from ≡ at - getD (now (off .entry)) (q .letter) 0) ⌝ }
 {
     let mut left = r;
     let mut i = 0;
     while i < 8 {
-        let s = source(sa, off, i, x, at);
+        let s = back(off, i, at);
         let v = val[s];
         if left < v {
             return Pick {
@@ -129,31 +116,20 @@ fn seek(
 }
 
 // The edge of number r, at the end of buf (001, algorithm 8); the answer is where it starts.
-pub(crate) fn spell(
-    val: &[u64],
-    sa: &[usize; 8],
-    sc: &[usize; 8],
-    off: &[usize; 8],
-    p: Plan,
-    r: u64,
-    buf: &mut [u8],
-) -> usize
-    requires { ⌜ Readable p (now sa) (now sc) (now off) (now val) × (r < walksFor p (now sa) (now sc)) × (length (now buf) ≡ 128) ⌝ }
-    ensures { λ s. ⌜ (s ≤ 128) × (drop s (now (buf .exit)) ≡ edgeFor false p (now (sa .entry)) (now (sc .entry)) r) ⌝ }
+pub(crate) fn spell(val: &[u64], off: &[usize; 8], p: Plan, r: u64, buf: &mut [u8]) -> usize
+    requires { ⌜ Legible p (now off) (now val) × (r < getD (now val) (endFor p) 0) × (length (now buf) ≡ 128) ⌝ }
+    ensures { λ s. ⌜ (s ≤ 128) × BySteps p (now (off .entry)) (now (val .entry)) (λ sa sc. drop s (now (buf .exit)) ≡ edgeFor false p sa sc r) ⌝ }
 {
-    let mut x = p.ex;
-    let mut y = p.ey;
-    let mut at = (p.ex + 1) * (p.deep + p.ey + 1) + p.deep + p.ey;
+    let start = start_of(p);
+    let mut at = end_of(p);
     let mut left = r;
     let mut s: usize = 128;
-    while 0 < x {
-        let q = seek(val, sa, off, p.k, x, at, left);
+    while at != start {
+        let q = seek(val, off, p.k, at, left);
         let l = q.letter;
         left = q.rest;
         s -= 1;
         buf[s] = glyph_of(l);
-        x -= sa[l];
-        y -= sc[l];
         at = q.from;
     }
     s

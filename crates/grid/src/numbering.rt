@@ -6,7 +6,7 @@ ghost use Rattle.lines.specs.Lines.{cutFrom};
 ghost use Rattle.lines.specs.Ranks.{FrontIn};
 ghost use Rattle.tables.specs.Calls.{Countable, NumbersAs};
 ghost use Rattle.tables.specs.Plans.{Planned, Narrow, PreparedFor, validFor, rankFor, NumbersFor};
-ghost use Rattle.tables.specs.Filling.{Blank, Readable};
+ghost use Rattle.tables.specs.Filling.{Blank, Legible, BySteps};
 use crate::edges::read;
 use crate::plan::cells_of;
 use crate::plan::offsets;
@@ -21,8 +21,6 @@ use tables::Tally;
 // The numbers of the edges, up to the first string that is none; the answer is how many.
 fn number_each(
     val: &[u64],
-    sa: &[usize; 8],
-    sc: &[usize; 8],
     off: &[usize; 8],
     p: Plan,
     bytes: &[u8],
@@ -30,14 +28,14 @@ fn number_each(
     ends: &[usize],
     numbers: &mut [u64],
 ) -> usize
-    requires { ⌜ Readable p (now sa) (now sc) (now off) (now val) × (length (now ends) ≤ length (now numbers)) ⌝ }
-    ensures { λ n. ⌜ FrontIn (validFor false p (now (sa .entry)) (now (sc .entry))) (rankFor false p (now (sa .entry)) (now (sc .entry))) (cutFrom from (now (ends .entry)) (now (bytes .entry))) (now (numbers .entry)) (now (numbers .exit)) n ⌝ }
+    requires { ⌜ Legible p (now off) (now val) × (length (now ends) ≤ length (now numbers)) ⌝ }
+    ensures { λ n. ⌜ BySteps p (now (off .entry)) (now (val .entry)) (λ sa sc. FrontIn (validFor false p sa sc) (rankFor false p sa sc) (cutFrom from (now (ends .entry)) (now (bytes .entry))) (now (numbers .entry)) (now (numbers .exit)) n) ⌝ }
 {
     let mut at = from;
     let mut i: usize = 0;
     while i < ends.len() {
         let end = ends[i];
-        let Rank::At(r) = read(val, sa, sc, off, p, lines::part(bytes, at, end)) else {
+        let Rank::At(r) = read(val, off, p, lines::part(bytes, at, end)) else {
             return i;
         };
         numbers[i] = r;
@@ -65,7 +63,7 @@ fn number_in(
     if let Tally::Over = fill(val, sa, sc, off, p) {
         return Ranked::Refused(4);
     }
-    Ranked::Upto(number_each(val, sa, sc, off, p, bytes, from, ends, numbers))
+    Ranked::Upto(number_each(val, off, p, bytes, from, ends, numbers))
 }
 
 // The numbers of the edges, in a table of the smallest of three sizes that has room.

@@ -3,7 +3,7 @@ ghost use mathlib.Core.Path.{_≡_};
 ghost use Prim.Native.Nat.{_*_, _≤_};
 ghost use Rattle.tables.specs.Shapes.{FormOf};
 ghost use Rattle.tables.specs.Table.{Few, Offsets};
-ghost use Rattle.tables.specs.Plans.{Planned, PlanOf, SizesFor, strideFor, cellsFor};
+ghost use Rattle.tables.specs.Plans.{Planned, PlanOf, SizesFor, strideFor, cellsFor, startFor, endFor};
 use tables::Plan;
 use tables::Shape;
 
@@ -110,4 +110,20 @@ pub(crate) fn cells_of(p: Plan) -> usize
     ensures { λ r. ⌜ r ≡ cellsFor p ⌝ }
 {
     (p.ex + 2) * (p.deep + p.ey + 1)
+}
+
+// Where the start's cell stands.
+pub(crate) fn start_of(p: Plan) -> usize
+    requires { ⌜ SizesFor p ⌝ }
+    ensures { λ r. ⌜ r ≡ startFor p ⌝ }
+{
+    p.deep + p.ey + 1 + p.deep
+}
+
+// Where the end's does.
+pub(crate) fn end_of(p: Plan) -> usize
+    requires { ⌜ SizesFor p ⌝ }
+    ensures { λ r. ⌜ r ≡ endFor p ⌝ }
+{
+    (p.ex + 1) * (p.deep + p.ey + 1) + p.deep + p.ey
 }

@@ -3,12 +3,12 @@
 ghost use mathlib.Core.Path.{_≡_};
 ghost use mathlib.Core.Bool.{true, false};
 ghost use Prim.Native.Nat.{_≤_, _<_};
-ghost use lib.ListN.{length};
+ghost use lib.ListN.{length, getD};
 ghost use Rattle.rules.specs.Questions.{allBelow};
 ghost use Rattle.tables.specs.Spelling.{Front};
-ghost use Rattle.tables.specs.Filling.{Blank, Readable};
+ghost use Rattle.tables.specs.Filling.{Blank, Legible, BySteps};
 ghost use Rattle.tables.specs.Calls.{BuildsAs, Countable};
-ghost use Rattle.tables.specs.Plans.{Planned, Narrow, PreparedFor, walksFor, RoomFor, edgeFor, ListsFor, BuildsFor};
+ghost use Rattle.tables.specs.Plans.{Planned, Narrow, PreparedFor, endFor, RoomFor, edgeFor, ListsFor, BuildsFor};
 use crate::edges::spell;
 use crate::plan::cells_of;
 use crate::plan::offsets;
@@ -20,20 +20,12 @@ use tables::Shape;
 use tables::Tally;
 
 // The edge of number r, to the front of steps; the answer is its length.
-fn spell_front(
-    val: &[u64],
-    sa: &[usize; 8],
-    sc: &[usize; 8],
-    off: &[usize; 8],
-    p: Plan,
-    r: u64,
-    steps: &mut [u8],
-) -> usize
-    requires { ⌜ Readable p (now sa) (now sc) (now off) (now val) × (r < walksFor p (now sa) (now sc)) × (128 ≤ length (now steps)) ⌝ }
-    ensures { λ n. ⌜ Front (edgeFor false p (now (sa .entry)) (now (sc .entry)) r) (now (steps .entry)) (now (steps .exit)) n ⌝ }
+fn spell_front(val: &[u64], off: &[usize; 8], p: Plan, r: u64, steps: &mut [u8]) -> usize
+    requires { ⌜ Legible p (now off) (now val) × (r < getD (now val) (endFor p) 0) × (128 ≤ length (now steps)) ⌝ }
+    ensures { λ n. ⌜ BySteps p (now (off .entry)) (now (val .entry)) (λ sa sc. Front (edgeFor false p sa sc r) (now (steps .entry)) (now (steps .exit)) n) ⌝ }
 {
     let mut buf = [0u8; 128];
-    let at = spell(val, sa, sc, off, p, r, &mut buf);
+    let at = spell(val, off, p, r, &mut buf);
     job::put(&buf[at..], steps);
     128 - at
 }
@@ -41,21 +33,19 @@ fn spell_front(
 // The edges, one after the other, and where each ends; the answer is where the last one does.
 fn spell_all(
     val: &[u64],
-    sa: &[usize; 8],
-    sc: &[usize; 8],
     off: &[usize; 8],
     p: Plan,
     numbers: &[u64],
     steps: &mut [u8],
     ends: &mut [usize],
 ) -> usize
-    requires { ⌜ Readable p (now sa) (now sc) (now off) (now val) × (allBelow (walksFor p (now sa) (now sc)) (now numbers) ≡ true) × RoomFor (now numbers) (now steps) (now ends) ⌝ }
-    ensures { λ at. ⌜ ListsFor false p (now (sa .entry)) (now (sc .entry)) (now (numbers .entry)) (now (steps .entry)) (now (ends .entry)) (now (steps .exit)) (now (ends .exit)) at ⌝ }
+    requires { ⌜ Legible p (now off) (now val) × (allBelow (getD (now val) (endFor p) 0) (now numbers) ≡ true) × RoomFor (now numbers) (now steps) (now ends) ⌝ }
+    ensures { λ at. ⌜ BySteps p (now (off .entry)) (now (val .entry)) (λ sa sc. ListsFor false p sa sc (now (numbers .entry)) (now (steps .entry)) (now (ends .entry)) (now (steps .exit)) (now (ends .exit)) at) ⌝ }
 {
     let mut at: usize = 0;
     let mut i: usize = 0;
     while i < numbers.len() {
-        let n = spell_front(val, sa, sc, off, p, numbers[i], &mut steps[at..]);
+        let n = spell_front(val, off, p, numbers[i], &mut steps[at..]);
         at += n;
         ends[i] = at;
         i += 1;
@@ -83,7 +73,7 @@ fn spell_in(
     if !lines::all_below(numbers, c) {
         return Built::Refused(6);
     }
-    Built::Length(spell_all(val, sa, sc, off, p, numbers, steps, ends))
+    Built::Length(spell_all(val, off, p, numbers, steps, ends))
 }
 
 // The edges, over a table of the smallest of three sizes that has room.

@@ -2,7 +2,6 @@
 --
 --   east-up                         how far up E goes, from how far N does
 --   back-small, end-at, cells-at    what `north_of`, `end_of` and `cells_of` sum fits
---   all-le, brings    what a cell holds, and what stands as far back as a step leads
 --   Near, near                      what N and E bring to a cell can be read, and fits
 --   PlainAlong                      the loop along a row, by the plan of families 1 and 3
 --   Begins, row-begins, row-start   its first cell
@@ -10,40 +9,39 @@
 --   Here, Led, led-start, led-out, led-end    the loop of `read`
 --   Reading, reading-in, reading-back, reading-near, north-led, east-led, across-led, east-fits, across-fits    a step read
 --   no-step, across-left            where `read` finds no step of the job
---   Given, Spelt, spelt-start, spelt-end    the loop of `spell`
+--   Given, Spelt, spelt-start    the loop of `spell`
 --   Spelling, spelling-back, spelling-near, spelling-room, Added, north-added, east-added, across-added    a step written
 use mathlib.Core.Path.{_≡_, refl, sym, ap, _∙_, subst}
 use mathlib.Core.Bool.{Bool, true, false, not}
 use mathlib.Core.List.{List}
 use Prim.Native.Nat.{ℕ, _+_, _-_, _*_, _^_, _≤_, _<_}
 use native.Mathlib.Omega.{arith}
-use native.Mathlib.Decide.{decLe, decLt, ℕ-discrete}
+use native.Mathlib.Decide.{ℕ-discrete}
 use lib.Dec.{T, ltb, eqb, eqb→eq}
-use lib.ListN.{length, getD, set, drop}
+use lib.ListN.{length, getD, set}
 use borrow.Author.Tests.{eq-eqb}
 use Rattle.howmany.specs.Choose.{pick, bit}
 use Rattle.howmany.specs.Sum.{sum}
-use Rattle.howmany.proofs.Sums.{sum-none, sum-mono}
+use Rattle.howmany.proofs.Sums.{sum-mono}
 use Rattle.howmany.proofs.Choices.{is-true, holds, and-left, and-right}
 use Rattle.lines.specs.declared.Rank.the-variants.{At, NoEdge}
 use Rattle.letters.specs.Letters.{placeOf, glyphOf}
 use Rattle.letters.proofs.Glyphs.{place-n, place-e, place-d, place-no, glyph-n, glyph-e, glyph-d}
 use Rattle.rows.specs.declared.plain.Plain.{Plain}
-use Rattle.tables.specs.Form.{wall, walksTo, via}
+use Rattle.tables.specs.Form.{wall, via}
 use Rattle.tables.specs.Cells.{capOf, place}
-use Rattle.tables.specs.Edges.{Sought}
-use Rattle.rows.specs.Plains.{plainPlan, plainRight, plainUp, plainBack, plainEnd, plainWalks, PlainRank, plainEdge, rises, isAcross, PlainSizes, PlainReadable, Within}
+use Rattle.tables.specs.Edges.{broughtAt, Sought}
+use Rattle.rows.specs.Plains.{plainPlan, plainRight, plainUp, plainBack, plainEnd, plainWalks, PlainRank, rises, isAcross, PlainSizes, PlainReadable, Within}
 use Rattle.tables.specs.Plans.{strideFor, cellsFor}
 use Rattle.rows.specs.Rows.{Rowing}
 use Rattle.tables.proofs.Walls.{wall-none}
-use Rattle.tables.proofs.Laws.{sum-more, mul-bound, via-left, via-under, walks-start, walks-step, cell-value}
+use Rattle.tables.proofs.Laws.{sum-more, mul-bound, walks-start, cell-value}
 use Rattle.tables.proofs.Counts.{pos-of}
-use Rattle.tables.proofs.Columns.{source-in, grow}
 use Rattle.tables.proofs.Phases.{last-row}
-use Rattle.tables.proofs.Numbers.{Stand, stand-in, stand-is, barren, reads-at, Walking, walking-start, stepped, step-as, not-letter, not-right, not-up, not-start, walking-end}
-use Rattle.tables.proofs.Building.{Writing, next-letter, write-as, writing-start, writing-end, left-of, seek-here, seek-end}
+use Rattle.tables.proofs.Numbers.{Stand, stand-in, all-le, reads-at, reads-sum, end-stand, Walking, not-there, walking-start, walking-reads, walking-fits, not-letter, not-back, stepped, not-start, walking-end}
+use Rattle.tables.proofs.Building.{Writing, writing-start, left-of, spell-room, step-from, step-back, next-letter, seek-here, seek-end}
 use Rattle.rows.proofs.Plains.{plain-steps}
-use Rattle.rows.proofs.Along.{Along, place-one, place-far, row-at, row-small, row-far, along-start, along-in, along-far, next-in, next-small, along-over, along-next}
+use Rattle.rows.proofs.Along.{Along, place-far, row-at, row-small, row-far, along-start, along-in, along-far, next-in, next-small, along-over, along-next}
 
 two-there : (d : Bool) → (2 ≤ pick d 3 2) × (pick d 3 2 ≤ 8)
 two-there true = (omega arith, omega arith)
@@ -85,10 +83,7 @@ module _ (c : Plain) where
       either true = w .n-most
       either false = w .m-most
 
-  -- how many walks lead to (x, y), and how many of them by each last step
-  abbrev walks : ℕ → ℕ → ℕ
-  walks x y = walksTo (plainPlan c .k) (plainPlan c .wall) (plainRight c) (plainUp c) x y
-
+  -- how many walks lead to (x, y) by each last step
   abbrev steps-via : ℕ → ℕ → ℕ → ℕ
   steps-via x y = via (plainPlan c .k) (plainPlan c .wall) (plainRight c) (plainUp c) x y
 
@@ -115,34 +110,8 @@ pub record Near (c : Plain) (val : List ℕ) (x y cell n o : ℕ) : Type 0 where
 
 -- what stands as far back as a step leads is what the step brings: where it leads out of the grid, a zero
 module _ (c : Plain) {val : List ℕ} (fu : PlainReadable c val) {x y cell : ℕ} (st : Stand (plainPlan c) (plainRight c) (plainUp c) x y cell) where
-  pub all-le : sum (steps-via c x y) (plainPlan c .k) ≤ walks c x y
-  all-le = elim (decLt 0 x) [
-    | yes px ↦ omega (arith, walks-step (plainPlan c .k) (plainPlan c .wall) (plainRight c) (plainUp c) (pos-of (fu .ready .slopes)) x y px (level c x y))
-    | no z ↦ omega (
-      arith,
-      sum-none (steps-via c x y) (plainPlan c .k)
-          (λ i h. via-left (plainPlan c .k) (plainPlan c .wall) (plainRight c) (plainUp c) x y i (omega (arith, pos-of (fu .ready .slopes) i h))),
-    )
-  ]
-
-  pub brings : (l : ℕ) → l < plainPlan c .k → {o : ℕ} → o ≡ getD (plainBack c) l 0 → o ≤ cell → getD val (cell - o) 0 ≡ steps-via c x y l
-  brings l h {o} eo far = elim (decLe (getD (plainRight c) l 0) x) [
-    | yes a ↦ ap (λ (z : ℕ). getD val z 0) (ap (λ (z : ℕ). cell - z) eo ∙ sym (source-in (plainRight c) (plainBack c) x cell l a))
-        ∙ reads-at fu st (omega (arith, pos-of (fu .ready .slopes) l h)) (level c x y) .says l h
-    | no a ↦ cell-value _ (getD (fu .solid .ov) (cell - o) 0) 0 (fu .solid .flags .front (cell - o) (in-front (omega arith))) (omega arith)
-        ∙ sym (via-left (plainPlan c .k) (plainPlan c .wall) (plainRight c) (plainUp c) x y l (omega arith))
-  ]
-    where
-      in-front : x < getD (plainRight c) l 0 → cell - o < strideFor (plainPlan c)
-      in-front a = omega (
-        arith,
-        eo,
-        far,
-        st .at,
-        st .ends .0,
-        fu .ready .offs .is l (omega (arith, two-there (c .diagonal))),
-        grow (strideFor (plainPlan c)) (x + 1) (getD (plainRight c) l 0) (omega arith),
-      )
+  brings : (l : ℕ) → l < plainPlan c .k → {o : ℕ} → o ≡ getD (plainBack c) l 0 → getD val (cell - o) 0 ≡ steps-via c x y l
+  brings l h eo = ap (λ (z : ℕ). getD val (cell - z) 0) eo ∙ reads-at fu st (level c x y) .says l h
 
   pub near : {n o : ℕ} → n ≡ getD (plainBack c) 0 0 → o ≡ getD (plainBack c) 1 0 → Near c val x y cell n o
   unfolding sum
@@ -155,7 +124,7 @@ module _ (c : Plain) {val : List ℕ} (fu : PlainReadable c val) {x y cell : ℕ
     east-is = is-east;
     one = omega (arith, is-north);
     both = omega (arith, is-north, is-east);
-    fits = omega (arith, is-north, is-east, sum-mono (steps-via c x y) 2 (plainPlan c .k) (two-there (c .diagonal) .0), all-le, st .fits);
+    fits = omega (arith, is-north, is-east, sum-mono (steps-via c x y) 2 (plainPlan c .k) (two-there (c .diagonal) .0), all-le fu st (level c x y), st .fits);
   }
     where
       back-n : n ≤ cell
@@ -165,10 +134,10 @@ module _ (c : Plain) {val : List ℕ} (fu : PlainReadable c val) {x y cell : ℕ
       back-e = omega (arith, eo, st .at, place-far 1 (plainPlan c .ey) x y, one-up (ltb (c .n) (c .m)) _ refl)
 
       is-north : getD val (cell - n) 0 ≡ steps-via c x y 0
-      is-north = brings 0 (omega (arith, two-there (c .diagonal))) en back-n
+      is-north = brings 0 (omega (arith, two-there (c .diagonal))) en
 
       is-east : getD val (cell - o) 0 ≡ steps-via c x y 1
-      is-east = brings 1 (omega (arith, two-there (c .diagonal))) eo back-e
+      is-east = brings 1 (omega (arith, two-there (c .diagonal))) eo
 
 -- ---- the loop along a row
 
@@ -228,10 +197,8 @@ module _ {c : Plain} {y : ℕ} {val : List ℕ} {cell sum i s : ℕ} (t : Fillin
 -- ---- the loop of `read`, which keeps neither column nor height
 
 -- the letters from i on lead back from the end to the cell, which is that of some (x, y)
-pub record Here (c : Plain) (val e : List ℕ) (acc cell i : ℕ) : Type 0 where
-  pub x : ℕ
-  pub y : ℕ
-  pub walking : Walking true (plainPlan c) (plainRight c) (plainUp c) (plainBack c) val e acc x y cell i
+abbrev pub Here : Plain → List ℕ → List ℕ → ℕ → ℕ → ℕ → Type 0
+Here c val e acc cell i = Walking true (plainPlan c) (plainRight c) (plainUp c) (plainBack c) val e acc cell i
 
 -- the same, or they lead to a cell that no walk leads to
 pub record Led (c : Plain) (val e : List ℕ) (acc cell i : ℕ) : Type 0 where
@@ -242,37 +209,15 @@ pub record Led (c : Plain) (val e : List ℕ) (acc cell i : ℕ) : Type 0 where
   pub some : (getD val cell 0 ≡ 0 → ⊥) → Here c val e acc cell i
 
 module _ (c : Plain) {val e : List ℕ} where
-  led : {acc x y cell i : ℕ} → Walking true (plainPlan c) (plainRight c) (plainUp c) (plainBack c) val e acc x y cell i → Led c val e acc cell i
-  led {acc} {x} {y} {cell} {i} w = record {
-    full = w .full;
-    i-le = w .i-le;
-    inside = stand-in (w .full) (w .stand);
-    none = λ z. sym (w .same) ∙ barren true (plainPlan c .k) (plainPlan c .wall) (plainRight c) (plainUp c) (pos-of (w .full .ready .slopes)) e i x y (sym (stand-is (w .full) (w .stand)) ∙ z);
-    some = λ n. record { x = x; y = y; walking = w };
-  }
-
   pub led-start : PlainReadable c val → {cell : ℕ} → cell ≡ plainEnd c → Led c val e 0 cell (length e)
-  led-start fu ep = led (walking-start fu ep)
+  led-start fu ep = record { full = fu; i-le = omega arith; inside = stand-in fu (end-stand fu ep); none = not-there true e fu ep; some = walking-start true e fu ep }
 
   module _ {acc cell i : ℕ} (w : Led c val e acc cell i) (h : i ≤ 0) where
     pub led-out : (cell ≡ strideFor (plainPlan c) + 1 → ⊥) → PlainRank c e NoEdge
-    led-out o = elim (ℕ-discrete (getD val cell 0) 0) [
-      | yes z ↦ w .none z
-      | no n ↦ let at = w .some n in not-start (at .walking) h (apart at)
-    ]
-      where
-        apart : (at : Here c val e acc cell i) → 0 < at .x + at .y
-        apart at = elim (decLt 0 (at .x + at .y)) [
-          | yes l ↦ l
-          | no l ↦ let z : at .x ≡ 0 = omega arith in
-              absurd (o (omega (arith, at .walking .stand .at, ap (λ (u : ℕ). (u + 1) * strideFor (plainPlan c)) z)))
-        ]
+    led-out o = elim (ℕ-discrete (getD val cell 0) 0) [ yes z ↦ w .none z | no n ↦ not-start (w .some n) h (omega arith) o ]
 
     pub led-end : cell ≡ strideFor (plainPlan c) + 1 → PlainRank c e (At acc)
-    led-end q =
-        let at = w .some (λ z. omega (arith, z, one)) in
-        let p = place-one 1 (plainPlan c .ey) (at .x) (at .y) 0 0 (at .walking .stand .ends .0) (omega arith) (sym (at .walking .stand .at) ∙ q ∙ omega arith) in
-        walking-end (at .walking) h (omega (arith, p .0, p .1))
+    led-end q = walking-end (w .some (λ z. omega (arith, z, one))) h (omega arith) q
       where
         one : getD val cell 0 ≡ 1
         one =
@@ -296,32 +241,23 @@ module _ {c : Plain} {val e : List ℕ} {acc cell i n o : ℕ} (t : Reading c va
   abbrev y : ℕ
   y = t .here .y
 
-  abbrev walking : Walking true (plainPlan c) (plainRight c) (plainUp c) (plainBack c) val e acc x y cell i
-  walking = t .here .walking
+  abbrev walking : Here c val e acc cell i
+  walking = t .here
+
+  -- what the cells say of the steps before l
+  said : (l : ℕ) → l ≤ plainPlan c .k → {v : ℕ} → v ≡ sum (steps-via c x y) l → v ≡ sum (broughtAt (plainBack c) val cell) l
+  said l k ev = ev ∙ sym (reads-sum (walking-reads walking) l k)
 
   -- a step back, with v more summed
-  next : (l : ℕ) → l ≡ placeOf true (getD e (i - 1) 0) → l < plainPlan c .k → {b v s : ℕ} → b ≡ getD (plainBack c) l 0 → b ≤ cell
+  next : (l : ℕ) → l ≡ placeOf true (getD e (i - 1) 0) → l < plainPlan c .k → {b v s : ℕ} → b ≡ getD (plainBack c) l 0
       → v ≡ sum (steps-via c x y) l → s ≡ acc + v → Led c val e s (cell - b) (i - 1)
-  next l q k {b} {v} {s} eb far ev es = elim (decLe (getD (plainRight c) l 0) x) [
-    | yes a ↦ elim (decLe (getD (plainUp c) l 0) y) [
-      | yes u ↦ led c (step-as (stepped walking (t .more) q (level c x y) k a u) refl refl eb ev es)
-      | no u ↦ out (not-up walking (t .more) q (level c x y) a (omega arith)) (via-under (plainPlan c .k) (plainPlan c .wall) (plainRight c) (plainUp c) x y l a (omega arith))
-    ]
-    | no a ↦ out (not-right walking (t .more) q (level c x y) (omega arith)) (via-left (plainPlan c .k) (plainPlan c .wall) (plainRight c) (plainUp c) x y l (omega arith))
-  ]
-    where
-      out : PlainRank c e NoEdge → steps-via c x y l ≡ 0 → Led c val e s (cell - b) (i - 1)
-      out r z = record {
-        full = walking .full;
-        i-le = omega (arith, walking .i-le);
-        inside = omega (arith, stand-in (walking .full) (walking .stand));
-        none = λ _. r;
-        some = λ f. absurd (f (brings c (walking .full) (walking .stand) l k eb far ∙ z));
-      }
-
-  -- what steps bring fits beside what is summed
-  more-fits : (l : ℕ) → l ≤ plainPlan c .k → acc + sum (steps-via c x y) l < 2 ^ 64
-  more-fits l k = omega (arith, sum-mono (steps-via c x y) l (plainPlan c .k) k, all-le c (walking .full) (walking .stand), walking .under, walking .full .fits)
+  next l q k eb ev es = record {
+    full = walking .full;
+    i-le = omega (arith, walking .i-le);
+    inside = omega (arith, stand-in (walking .full) (walking .stand));
+    none = not-back walking (t .more) q k (ap (λ (z : ℕ). cell - z) eb);
+    some = λ n. rw es (stepped walking (t .more) q k (ap (λ (z : ℕ). cell - z) eb) n (said l (omega arith) ev));
+  }
 
   pub reading-in : i - 1 < length e
   reading-in = omega (arith, walking .i-le, t .more)
@@ -333,26 +269,26 @@ module _ {c : Plain} {val e : List ℕ} {acc cell i n o : ℕ} (t : Reading c va
   reading-near = near c (walking .full) (walking .stand) (t .north) (t .east)
 
   pub east-fits : acc + getD val (cell - n) 0 < 2 ^ 64
-  east-fits = omega (arith, more-fits 1 (omega (arith, two-there (c .diagonal))), reading-near .one)
+  east-fits = let k : 1 ≤ plainPlan c .k = omega (arith, two-there (c .diagonal)) in walking-fits walking 1 k (said 1 k (reading-near .one))
 
   pub across-fits : acc + (getD val (cell - n) 0 + getD val (cell - o) 0) < 2 ^ 64
-  across-fits = omega (arith, more-fits 2 (two-there (c .diagonal) .0), reading-near .both)
+  across-fits = walking-fits walking 2 (two-there (c .diagonal) .0) (said 2 (two-there (c .diagonal) .0) (reading-near .both))
 
   pub north-led : getD e (i - 1) 0 ≡ 78 → Led c val e acc (cell - n) (i - 1)
   unfolding sum
-  north-led b = next 0 (place-n true _ refl b) (omega (arith, two-there (c .diagonal))) (t .north) (reading-near .north-back) refl (omega arith)
+  north-led b = next 0 (place-n true _ refl b) (omega (arith, two-there (c .diagonal))) (t .north) refl (omega arith)
 
   module _ (a : getD e (i - 1) 0 ≡ 78 → ⊥) where
     pub east-led : getD e (i - 1) 0 ≡ 69 → Led c val e (acc + getD val (cell - n) 0) (cell - o) (i - 1)
-    east-led b = next 1 (place-e true _ refl a b) (omega (arith, two-there (c .diagonal))) (t .east) (reading-near .east-back) (reading-near .one) refl
+    east-led b = next 1 (place-e true _ refl a b) (omega (arith, two-there (c .diagonal))) (t .east) (reading-near .one) refl
 
     module _ (m : getD e (i - 1) 0 ≡ 69 → ⊥) where
       pub no-step : isAcross c (getD e (i - 1) 0) ≡ false → PlainRank c e NoEdge
       no-step f = go (ℕ-discrete (getD e (i - 1) 0) 68) (c .diagonal) refl
         where
           go : Dec (getD e (i - 1) 0 ≡ 68) → (d : Bool) → c .diagonal ≡ d → PlainRank c e NoEdge
-          go (no b) d q = not-letter walking (t .more) (place-no true _ refl a m b) (level c x y) (two-there (c .diagonal) .1)
-          go (yes b) false q = not-letter walking (t .more) (place-d true _ refl a m b) (level c x y) (rw q (omega arith))
+          go (no b) d q = not-letter walking (t .more) (place-no true _ refl a m b) (two-there (c .diagonal) .1)
+          go (yes b) false q = not-letter walking (t .more) (place-d true _ refl a m b) (rw q (omega arith))
           go (yes b) true q = let g : true ≡ false = rw (eq-eqb (getD e (i - 1) 0) 68 b, q) at f in absurd (subst T g tt)
 
       module _ (is : isAcross c (getD e (i - 1) 0) ≡ true) where
@@ -363,16 +299,13 @@ module _ {c : Plain} {val e : List ℕ} {acc cell i n o : ℕ} (t : Reading c va
         letter = place-d true _ refl a m (eqb→eq (getD e (i - 1) 0) 68 (and-left (eqb (getD e (i - 1) 0) 68) (c .diagonal) (holds is)))
 
         pub across-left : cell < n + o → PlainRank c e NoEdge
-        across-left l = not-right walking (t .more) letter (level c x y) (omega (arith, first, two-right (c .diagonal)))
+        across-left l = not-back walking (t .more) letter (rw d (omega arith)) (ap (λ (z : ℕ). cell - z) (across-back c (t .north) (t .east) d)) (zero (omega arith))
           where
-            first : x < 1
-            first = elim (decLt x 1) [
-              | yes q ↦ q
-              | no q ↦ absurd (omega (arith, t .north, t .east, walking .stand .at, one-up (ltb (c .n) (c .m)) _ refl, grow (strideFor (plainPlan c)) 2 (x + 1) (omega arith)))
-            ]
+            zero : cell - (n + o) ≡ 0 → getD val (cell - (n + o)) 0 ≡ 0
+            zero z = rw z (cell-value _ (getD (walking .full .solid .ov) 0 0) 0 (walking .full .solid .flags .front 0 (omega arith)) (omega arith))
 
-        pub across-led : n + o ≤ cell → Led c val e (acc + (getD val (cell - n) 0 + getD val (cell - o) 0)) (cell - (n + o)) (i - 1)
-        across-led far = next 2 letter (rw d (omega arith)) (across-back c (t .north) (t .east) d) far (reading-near .both) refl
+        pub across-led : Led c val e (acc + (getD val (cell - n) 0 + getD val (cell - o) 0)) (cell - (n + o)) (i - 1)
+        across-led = next 2 letter (rw d (omega arith)) (across-back c (t .north) (t .east) d) (reading-near .both) refl
 
 -- ---- the loop of `spell`, which doesn't keep the height
 
@@ -386,61 +319,53 @@ pub record Given (c : Plain) (val : List ℕ) (r : ℕ) (buf : List ℕ) (n o x 
   pub from : x ≡ c .n + c .m
   pub at : cell ≡ plainEnd c
 
--- the height is some y
-pub record Spelt (c : Plain) (val : List ℕ) (r : ℕ) (buf₀ buf : List ℕ) (x cell left s : ℕ) : Type 0 where
-  pub y : ℕ
-  pub writing : Writing true (plainPlan c) (plainRight c) (plainUp c) (plainBack c) val r buf₀ buf x y cell left s
+abbrev pub Spelt : Plain → List ℕ → ℕ → List ℕ → ℕ → ℕ → ℕ → ℕ → Type 0
+Spelt c val r buf x cell left s = Writing true (plainPlan c) (plainRight c) (plainUp c) (plainBack c) val r buf x cell left s
 
 -- the byte g written, and a columns and o cells back
-pub record Added (c : Plain) (val : List ℕ) (r : ℕ) (buf₀ buf : List ℕ) (x cell s g a o rest : ℕ) : Type 0 where
+pub record Added (c : Plain) (val : List ℕ) (r : ℕ) (buf : List ℕ) (x cell s g a o rest : ℕ) : Type 0 where
   pub right : a ≤ x
   pub far : o ≤ cell
   pub ahead : x - a < x
-  pub next : Spelt c val r buf₀ (set buf (s - 1) g) (x - a) (cell - o) rest (s - 1)
+  pub next : Spelt c val r (set buf (s - 1) g) (x - a) (cell - o) rest (s - 1)
 
 -- a turn: the start isn't reached, and n and o are how far back the cells of N and E lie
-pub record Spelling (c : Plain) (val : List ℕ) (r : ℕ) (buf₀ buf : List ℕ) (x cell left s n o : ℕ) : Type 0 where
-  pub spelt : Spelt c val r buf₀ buf x cell left s
+pub record Spelling (c : Plain) (val : List ℕ) (r : ℕ) (buf : List ℕ) (x cell left s n o : ℕ) : Type 0 where
+  pub spelt : Spelt c val r buf x cell left s
   pub more : 0 < x
   pub north : n ≡ getD (plainBack c) 0 0
   pub east : o ≡ getD (plainBack c) 1 0
 
-module _ (c : Plain) {val : List ℕ} {r : ℕ} {buf₀ : List ℕ} where
-  pub spelt-start : {n o x cell : ℕ} → Given c val r buf₀ n o x cell → Spelt c val r buf₀ buf₀ x cell r 128
-  spelt-start g = rw (g .from) (record { y = _; writing = writing-start (g .full) (g .less) (g .long) _ (g .at) })
+pub spelt-start : (c : Plain) {val : List ℕ} {r : ℕ} {buf : List ℕ} {n o x cell : ℕ} → Given c val r buf n o x cell → Spelt c val r buf x cell r 128
+spelt-start c g = rw (g .from) (writing-start true (g .full) (g .less) (g .long) (g .at))
 
-  pub spelt-end : {buf : List ℕ} {x cell left s : ℕ} → Spelt c val r buf₀ buf x cell left s → x ≤ 0 → (s ≤ 128) × (drop s buf ≡ plainEdge c r)
-  spelt-end w h = writing-end (w .writing) h
-
-module _ {c : Plain} {val : List ℕ} {r : ℕ} {buf₀ buf : List ℕ} {x cell left s n o : ℕ} (t : Spelling c val r buf₀ buf x cell left s n o) where
-  abbrev written-so : Writing true (plainPlan c) (plainRight c) (plainUp c) (plainBack c) val r buf₀ buf x (t .spelt .y) cell left s
-  written-so = t .spelt .writing
-
+module _ {c : Plain} {val : List ℕ} {r : ℕ} {buf : List ℕ} {x cell left s n o : ℕ} (t : Spelling c val r buf x cell left s n o) where
   -- what each step brings
   abbrev each : ℕ → ℕ
   each = steps-via c x (t .spelt .y)
 
   pub spelling-back : n + o < 2 ^ 64
-  spelling-back = back-small c (written-so .full .ready .sizes) (t .north) (t .east)
+  spelling-back = back-small c (t .spelt .full .ready .sizes) (t .north) (t .east)
 
   pub spelling-near : Near c val x (t .spelt .y) cell n o
-  spelling-near = near c (written-so .full) (written-so .stand) (t .north) (t .east)
+  spelling-near = near c (t .spelt .full) (t .spelt .stand) (t .north) (t .east)
 
   pub spelling-room : (1 ≤ s) × (s - 1 < length buf)
-  spelling-room = (omega (arith, t .more, written-so .x-le), omega (arith, t .more, written-so .x-le, written-so .s-le, written-so .room))
+  spelling-room = spell-room (t .spelt) (t .more)
 
   added : (l g a b rest : ℕ) → Sought each (plainPlan c .k) left l rest → a ≡ getD (plainRight c) l 0 → b ≡ getD (plainBack c) l 0 → g ≡ glyphOf true l
-      → Added c val r buf₀ buf x cell s g a b rest
+      → Added c val r buf x cell s g a b rest
   added l g a b rest so ea eb eg =
-      let w = next-letter written-so (t .more) l rest so in
+      let w = step-back (t .spelt) (t .more) so in
+      let f = step-from (t .spelt) (t .more) so in
       record {
-        right = omega (arith, ea, w .right);
-        far = omega (arith, eb, w .far);
-        ahead = rw ea (w .ahead);
-        next = record { y = _; writing = write-as w ea eb eg };
+        right = omega (arith, ea, f .0);
+        far = omega (arith, eb, w .2);
+        ahead = omega (arith, ea, w .0, f .0);
+        next = rw ea (next-letter (t .spelt) (t .more) so (ap (λ (z : ℕ). cell - z) eb) eg);
       }
 
-  pub north-added : left < getD val (cell - n) 0 → Added c val r buf₀ buf x cell s 78 1 n left
+  pub north-added : left < getD val (cell - n) 0 → Added c val r buf x cell s 78 1 n left
   unfolding sum
   north-added l =
       added 0 78 1 n left
@@ -451,7 +376,7 @@ module _ {c : Plain} {val : List ℕ} {r : ℕ} {buf₀ buf : List ℕ} {x cell 
     unfolding sum
     past-north = omega (arith, spelling-near .one)
 
-    pub east-added : left - getD val (cell - n) 0 < getD val (cell - o) 0 → Added c val r buf₀ buf x cell s 69 1 o (left - getD val (cell - n) 0)
+    pub east-added : left - getD val (cell - n) 0 < getD val (cell - o) 0 → Added c val r buf x cell s 69 1 o (left - getD val (cell - n) 0)
     east-added q =
         added 1 69 1 o _
         (seek-here each 1 (plainPlan c .k) _ left past-north (omega (arith, two-there (c .diagonal))) _ (spelling-near .east-is) q) refl (t .east) (glyph-e true 1 refl (λ z. omega arith) refl)
@@ -468,12 +393,12 @@ module _ {c : Plain} {val : List ℕ} {r : ℕ} {buf₀ buf : List ℕ} {x cell 
           go true e =
               let k : plainPlan c .k ≡ 3 = ap (λ (b : Bool). pick b 3 2) e in
               seek-here each 2 (plainPlan c .k) _ left past-east (omega arith) _ refl
-              (omega (arith, past-east, sum-more each 2, left-of written-so (t .more), ap (sum each) k))
+              (omega (arith, past-east, sum-more each 2, left-of (t .spelt) (t .more), ap (sum each) k))
           go false e =
               let k : plainPlan c .k ≡ 2 = ap (λ (b : Bool). pick b 3 2) e in
-              absurd (seek-end each 2 (plainPlan c .k) _ left past-east (two-there (c .diagonal) .0) (omega arith) (left-of written-so (t .more)))
+              absurd (seek-end each 2 (plainPlan c .k) _ left past-east (two-there (c .diagonal) .0) (omega arith) (left-of (t .spelt) (t .more)))
 
-      pub across-added : Added c val r buf₀ buf x cell s 68 2 (n + o) (left - getD val (cell - n) 0 - getD val (cell - o) 0)
+      pub across-added : Added c val r buf x cell s 68 2 (n + o) (left - getD val (cell - n) 0 - getD val (cell - o) 0)
       across-added =
           let d = third-there (c .diagonal) (across-sought .falls .inside) in
           let two : 2 ≡ getD (plainRight c) 2 0 = ap (λ (b : Bool). pick b 2 100) (sym d) in

@@ -2,16 +2,15 @@
 --
 --   seek-here, seek-more, seek-end, seek-in, seek-start    the loop of `seek`
 --   unr, unr-start, unr-step     the steps of the edge of a number, the last one first
---   via-pos, walks-in                where there are walks, the step and the spot are inside
 --   write-turn, write-done       a byte written in front of the others, and all of them
---   Writing, writing-start, reads-of, left-of, seek-needs, NextLetter, next-letter, picked, write-as, write-from, writing-end    the loop of `spell`
+--   Writing, Written, writing-start, writing-done, writing-more, left-of, seek-needs, picked, spell-room, step-from, step-in, step-back, next-letter, writing-end    the loop of `spell`
 use mathlib.Core.Path.{_≡_, refl, sym, ap, ap₂, _∙_}
 use mathlib.Core.Bool.{Bool}
 use mathlib.Core.Option.{Option, some}
 use mathlib.Core.List.{List, [], _∷_, _++_, map, reverse, reverse-cons, reverse-reverse, append-nil}
-use Prim.Native.Nat.{ℕ, zero, suc, _+_, _-_, _*_, _^_, _≤_, _<_}
+use Prim.Native.Nat.{ℕ, zero, suc, _+_, _-_, _≤_, _<_}
 use native.Mathlib.Omega.{arith}
-use native.Mathlib.Decide.{decLe, decLt}
+use native.Mathlib.Decide.{decLt}
 use native.Mathlib.Nat.{not-suc-le-zero}
 use lib.Dec.{T}
 use lib.ListN.{length, getD, drop, set, length-set, drop-of-length-le}
@@ -26,18 +25,16 @@ use Rattle.backward.proofs.Backward.{unrank-start, unrank-step}
 use Rattle.backward.proofs.Grids.{grid-lawful}
 use Rattle.tables.specs.Form.{wall, stepsIn, spot, walksTo, via}
 use Rattle.letters.specs.Letters.{glyphOf}
-use Rattle.tables.specs.Cells.{place, sourceOf}
 use Rattle.tables.specs.declared.Plan as plans
-use Rattle.tables.specs.Table.{Slopes}
 use Rattle.tables.specs.Edges.{walkEnd, walkOf, broughtAt, Summed, Reads, Sought}
-use Rattle.tables.specs.Plans.{walksFor, edgeFor}
+use Rattle.tables.specs.Plans.{strideFor, startFor, endFor, walksFor, edgeFor}
 use Rattle.tables.specs.Filling.{Readable}
-use Rattle.tables.proofs.Walls.{tested, wall-start}
-use Rattle.tables.proofs.Columns.{source-in}
-use Rattle.tables.proofs.Laws.{onward, sum-more, via-in, via-left, via-under, walks-start, walks-out, walks-step}
+use Rattle.tables.proofs.Walls.{wall-start}
+use Rattle.tables.proofs.Columns.{rows, grow}
+use Rattle.tables.proofs.Laws.{onward, sum-more, via-pos, walks-start, walks-in, walks-step}
 use Rattle.tables.proofs.Counts.{pos-of}
 use Rattle.tables.proofs.Reading.{back-is, end-in}
-use Rattle.tables.proofs.Numbers.{brought, Stand, reads-at, stand-back, reads-sum, reads-summed, reads-sought}
+use Rattle.tables.proofs.Numbers.{brought, Stand, end-stand, stand-start, stand-apart, reads-at, stand-back, reads-sum, reads-summed, reads-sought}
 use Rattle.tables.specs.declared.Wall.{Wall}
 
 -- ---- the loop of `seek`: i steps are passed, which stand for all of r but left
@@ -102,19 +99,6 @@ module _ (k : ℕ) (f : Wall) (sa sc : List ℕ) (pos : (i : ℕ) → i < k → 
       ∙ unrank-step (grid (stepsIn k f sa sc)) (grid-lawful (stepsIn k f sa sc) (onward k f sa sc pos)) (spot x y) r l (falls-cong (via k f sa sc x y) g k r l (λ j. sym (brought k f sa sc pos x y j)) (so .falls))
       ∙ ap (λ (w : List ℕ). l ∷ w) (ap₂ (unrank (grid (stepsIn k f sa sc))) (back-is k f sa sc x y l a c) q)
 
-  -- a step that brings something comes from inside the table
-  pub via-pos : (x y l rest : ℕ) → rest < via k f sa sc x y l → (getD sa l 0 ≤ x) × (getD sc l 0 ≤ y) × (rest < walksTo k f sa sc (x - getD sa l 0) (y - getD sc l 0))
-  via-pos x y l rest h = elim (decLe (getD sa l 0) x) [
-    | yes a ↦ elim (decLe (getD sc l 0) y) [
-      | yes c ↦ (a, c, omega (arith, via-in k f sa sc x y l a c))
-      | no r ↦ absurd (omega (arith, via-under k f sa sc x y l a (omega arith)))
-    ]
-    | no r ↦ absurd (omega (arith, via-left k f sa sc x y l (omega arith)))
-  ]
-
-  pub walks-in : (x y r : ℕ) → r < walksTo k f sa sc x y → T (wall f x y)
-  walks-in x y r h = elim (tested (wall f x y)) [ yes p ↦ p | no q ↦ absurd (omega (arith, walks-out k f sa sc pos x y q)) ]
-
 -- ---- bytes written at the end of a buffer
 
 write-start : (l t : List ℕ) (n : ℕ) → length l ≡ n → reverse (drop n l) ++ t ≡ t
@@ -132,7 +116,8 @@ write-done buf t u s n e = sym (reverse-reverse (drop s buf)) ∙ ap reverse (sy
 
 -- ---- the loop of `spell`
 
-pub record Writing (lettered : Bool) (p : plans.Plan) (sa sc off val : List ℕ) (r : ℕ) (buf₀ buf : List ℕ) (x y cell left s : ℕ) : Type 0 where
+pub record Writing (lettered : Bool) (p : plans.Plan) (sa sc off val : List ℕ) (r : ℕ) (buf : List ℕ) (x cell left s : ℕ) : Type 0 where
+  pub y : ℕ
   pub full : Readable p sa sc off val
   pub stand : Stand p sa sc x y cell
   pub less : left < walksTo (p .k) (p .wall) sa sc x y
@@ -141,94 +126,104 @@ pub record Writing (lettered : Bool) (p : plans.Plan) (sa sc off val : List ℕ)
   pub room : length buf ≡ 128
   pub so-far : reverse (drop s buf) ++ map (glyphOf lettered) (unr (p .k) (p .wall) sa sc x y left) ≡ map (glyphOf lettered) (unr (p .k) (p .wall) sa sc (p .ex) (p .ey) r)
 
-pub record NextLetter (lettered : Bool) (p : plans.Plan) (sa sc off val : List ℕ) (r : ℕ) (buf₀ buf : List ℕ) (x y cell s l rest : ℕ) : Type 0 where
-  pub below : l < 8
-  pub byte : l * 8 < 2 ^ 64
-  pub least : 1 ≤ s
-  pub inside : s - 1 < length buf
-  pub right : getD sa l 0 ≤ x
-  pub up : getD sc l 0 ≤ y
-  pub far : getD off l 0 ≤ cell
-  pub ahead : x - getD sa l 0 < x
-  pub next : (v : ℕ) → v ≡ glyphOf lettered l → Writing lettered p sa sc off val r buf₀ (set buf (s - 1) v) (x - getD sa l 0) (y - getD sc l 0) (cell - getD off l 0) rest (s - 1)
+-- the same, where the column isn't at hand either
+pub record Written (lettered : Bool) (p : plans.Plan) (sa sc off val : List ℕ) (r : ℕ) (buf : List ℕ) (cell left s : ℕ) : Type 0 where
+  pub x : ℕ
+  pub writing : Writing lettered p sa sc off val r buf x cell left s
 
--- the same by numbers that the code has at hand
-pub write-as : {lettered : Bool} {p : plans.Plan} {sa sc off val : List ℕ} {r : ℕ} {buf₀ buf : List ℕ} {x y cell s l rest : ℕ} → NextLetter lettered p sa sc off val r buf₀ buf x y cell s l rest → {a o v : ℕ}
-    → a ≡ getD sa l 0 → o ≡ getD off l 0 → v ≡ glyphOf lettered l → Writing lettered p sa sc off val r buf₀ (set buf (s - 1) v) (x - a) (y - getD sc l 0) (cell - o) rest (s - 1)
-write-as t ea eo ev = rw (ea, eo) (t .next _ ev)
+pub writing-start : (lettered : Bool) {p : plans.Plan} {sa sc off val : List ℕ} → Readable p sa sc off val → {r : ℕ} → r < walksFor p sa sc → {buf : List ℕ} → length buf ≡ 128 → {cell : ℕ} → cell ≡ endFor p
+    → Writing lettered p sa sc off val r buf (p .ex) cell r 128
+writing-start lettered {p} fu {r} less {buf} long ep = record {
+  y = p .ey;
+  full = fu;
+  stand = end-stand fu ep;
+  less = less;
+  x-le = omega (arith, fu .ready .sizes .ex-le);
+  s-le = omega arith;
+  room = long;
+  so-far = write-start buf _ 128 long;
+}
 
--- the same by the cell that the step comes from
-pub write-from : {lettered : Bool} {p : plans.Plan} {sa sc off val : List ℕ} {r : ℕ} {buf₀ buf : List ℕ} {x y cell s l rest : ℕ} → NextLetter lettered p sa sc off val r buf₀ buf x y cell s l rest → {from v : ℕ}
-    → from ≡ sourceOf sa off x cell l → v ≡ glyphOf lettered l → Writing lettered p sa sc off val r buf₀ (set buf (s - 1) v) (x - getD sa l 0) (y - getD sc l 0) from rest (s - 1)
-write-from {sa = sa} {off = off} {x = x} {cell = cell} {l = l} t e ev = rw (e ∙ source-in sa off x cell l (t .right)) (t .next _ ev)
+module _ {lettered : Bool} {p : plans.Plan} {sa sc off val : List ℕ} {r : ℕ} {buf : List ℕ} {x cell left s : ℕ} (w : Writing lettered p sa sc off val r buf x cell left s) where
+  abbrev y : ℕ
+  y = w .y
 
-module _ {lettered : Bool} {p : plans.Plan} {sa sc off val : List ℕ} {r : ℕ} {buf₀ : List ℕ} where
-  pub writing-start : Readable p sa sc off val → r < walksFor p sa sc → length buf₀ ≡ 128 → (cell : ℕ) → cell ≡ place (p .deep) (p .ey) (p .ex) (p .ey) → Writing lettered p sa sc off val r buf₀ buf₀ (p .ex) (p .ey) cell r 128
-  writing-start fu less long cell ep = record {
-    full = fu;
-    stand = record { end = omega arith; ends = (omega arith, omega arith); at = ep; fits = fu .fits };
-    less = less;
-    x-le = omega (arith, fu .ready .sizes .ex-le);
-    s-le = omega arith;
-    room = long;
-    so-far = write-start buf₀ _ 128 long;
-  }
+  pos : (j : ℕ) → j < p .k → 1 ≤ getD sa j 0
+  pos = pos-of (w .full .ready .slopes)
 
-  module _ {buf : List ℕ} {x y cell left s : ℕ} (w : Writing lettered p sa sc off val r buf₀ buf x y cell left s) where
-    plan-of : Slopes (p .k) sa sc (p .hi) (p .deep) (p .ex)
-    plan-of = w .full .ready .slopes
+  pub writing-end : x ≤ 0 → (s ≤ 128) × (drop s buf ≡ edgeFor lettered p sa sc r)
+  unfolding walkOf unr
+  writing-end h = (
+    w .s-le,
+    write-done buf _ (map (glyphOf lettered) (unr (p .k) (p .wall) sa sc (p .ex) (p .ey) r)) s (ap (map (glyphOf lettered)) (unr-start (p .k) (p .wall) sa sc pos x y left h (w .less))) (w .so-far)
+        ∙ map-reverse (glyphOf lettered) (unr (p .k) (p .wall) sa sc (p .ex) (p .ey) r),
+  )
 
-    pub writing-end : x ≤ 0 → (s ≤ 128) × (drop s buf ≡ edgeFor lettered p sa sc r)
-    unfolding walkOf unr
-    writing-end h = (
-      w .s-le,
-      write-done buf _ (map (glyphOf lettered) (unr (p .k) (p .wall) sa sc (p .ex) (p .ey) r)) s (ap (map (glyphOf lettered)) (unr-start (p .k) (p .wall) sa sc (pos-of plan-of) x y left h (w .less))) (w .so-far)
-          ∙ map-reverse (glyphOf lettered) (unr (p .k) (p .wall) sa sc (p .ex) (p .ey) r),
-    )
+  -- only the start's cell has no column behind it
+  module _ {start : ℕ} (es : start ≡ startFor p) where
+    pub writing-done : cell ≡ start → x ≤ 0
+    writing-done q = omega (arith, stand-start (w .full) (w .stand) es q)
 
-    module _ (px : 0 < x) where
-      inside-of : T (wall (p .wall) x y)
-      inside-of = walks-in (p .k) (p .wall) sa sc (pos-of plan-of) x y left (w .less)
+    pub writing-more : (cell ≡ start → ⊥) → 0 < x
+    writing-more n = elim (decLt 0 x) [
+      | yes l ↦ l
+      | no l ↦ let z : x ≡ 0 = omega arith in absurd (omega (arith, stand-apart (w .full) (w .stand) es n, at-zero (p .k) (p .wall) sa sc pos y left (rw z at (w .less))))
+    ]
 
-      pub reads-of : Reads (p .k) (p .wall) sa sc off val x y cell
-      reads-of = reads-at (w .full) (w .stand) px inside-of
+  module _ (px : 0 < x) where
+    inside-of : T (wall (p .wall) x y)
+    inside-of = walks-in (p .k) (p .wall) sa sc pos x y left (w .less)
 
-      pub left-of : left < sum (via (p .k) (p .wall) sa sc x y) (p .k)
-      left-of = omega (arith, w .less, walks-step (p .k) (p .wall) sa sc (pos-of plan-of) x y px inside-of)
+    reads-of : Reads (p .k) (p .wall) sa sc off val x y cell
+    reads-of = reads-at (w .full) (w .stand) inside-of
 
-      pub seek-needs : Summed (p .k) sa off val x cell × (left < sum (broughtAt sa off val x cell) (p .k))
-      seek-needs = (reads-summed reads-of (p .k) (omega arith), omega (arith, left-of, reads-sum reads-of (p .k) (omega arith)))
+    pub left-of : left < sum (via (p .k) (p .wall) sa sc x y) (p .k)
+    left-of = omega (arith, w .less, walks-step (p .k) (p .wall) sa sc pos x y px inside-of)
 
-      pub next-letter : (l rest : ℕ) → Sought (via (p .k) (p .wall) sa sc x y) (p .k) left l rest → NextLetter lettered p sa sc off val r buf₀ buf x y cell s l rest
-      next-letter l rest so = record {
-        below = omega (arith, plan-of .most, so .falls .inside);
-        byte = omega (arith, plan-of .most, so .falls .inside);
-        least = omega (arith, w .x-le);
-        inside = omega (arith, w .x-le, w .s-le, w .room);
-        right = vp .0;
-        up = vp .1;
-        far = reads-of .back l (so .falls .inside) (vp .0);
-        ahead = omega (arith, vp .0, go-on);
-        next = λ v ev. record {
+    pub seek-needs : Summed (p .k) off val cell × (left < sum (broughtAt off val cell) (p .k))
+    seek-needs = (reads-summed reads-of (p .k) (omega arith), omega (arith, left-of, reads-sum reads-of (p .k) (omega arith)))
+
+    -- the step that `seek` finds
+    pub picked : {l rest : ℕ} → Sought (broughtAt off val cell) (p .k) left l rest → Sought (via (p .k) (p .wall) sa sc x y) (p .k) left l rest
+    picked so = reads-sought reads-of so
+
+    pub spell-room : (1 ≤ s) × (s - 1 < length buf)
+    spell-room = (omega (arith, w .x-le), omega (arith, w .x-le, w .s-le, w .room))
+
+    module _ {l rest : ℕ} (so : Sought (via (p .k) (p .wall) sa sc x y) (p .k) left l rest) where
+      pub step-from : (getD sa l 0 ≤ x) × (getD sc l 0 ≤ y) × (rest < walksTo (p .k) (p .wall) sa sc (x - getD sa l 0) (y - getD sc l 0))
+      step-from = via-pos (p .k) (p .wall) sa sc x y l rest (omega (arith, so .left, so .falls .high))
+
+      pub step-in : l < 8
+      step-in = omega (arith, w .full .ready .slopes .most, so .falls .inside)
+
+      -- the step goes some columns, and so some cells
+      pub step-back : (1 ≤ getD sa l 0) × (1 ≤ getD off l 0) × (getD off l 0 ≤ cell)
+      step-back =
+          let a = pos l (so .falls .inside) in
+          let o = w .full .ready .offs .is l step-in in (
+            a,
+            omega (arith, grow (strideFor p) 1 (getD sa l 0) a),
+            omega (
+              arith,
+              w .stand .at,
+              w .full .ready .slopes .deep l step-in (omega (arith, step-from .0, w .stand .end)),
+              rows (strideFor p) x (getD sa l 0) (step-from .0),
+            ),
+          )
+
+      module _ {from v : ℕ} (ef : from ≡ cell - getD off l 0) (ev : v ≡ glyphOf lettered l) where
+        letters : map (glyphOf lettered) (unr (p .k) (p .wall) sa sc x y left) ≡ v ∷ map (glyphOf lettered) (unr (p .k) (p .wall) sa sc (x - getD sa l 0) (y - getD sc l 0) rest)
+        letters = ap (map (glyphOf lettered)) (unr-step (p .k) (p .wall) sa sc pos x y left l rest inside-of so (step-from .0) (step-from .1)) ∙ ap (λ (z : ℕ). z ∷ map (glyphOf lettered) (unr (p .k) (p .wall) sa sc (x - getD sa l 0) (y - getD sc l 0) rest)) (sym ev)
+
+        pub next-letter : Writing lettered p sa sc off val r (set buf (s - 1) v) (x - getD sa l 0) from rest (s - 1)
+        next-letter = record {
+          y = y - getD sc l 0;
           full = w .full;
-          stand = stand-back (w .full) (w .stand) px inside-of l _ _ _ (so .falls .inside) refl refl refl (vp .0) (vp .1);
-          less = vp .2;
-          x-le = omega (arith, w .x-le, go-on);
+          stand = stand-back (w .full) (w .stand) inside-of l (so .falls .inside) ef (step-from .0) (step-from .1);
+          less = step-from .2;
+          x-le = omega (arith, w .x-le, step-back .0);
           s-le = omega (arith, w .s-le);
           room = simp length-set (w .room);
-          so-far = write-turn buf s v (map (glyphOf lettered) (unr (p .k) (p .wall) sa sc x y left)) _ (omega (arith, w .x-le)) (omega (arith, w .s-le, w .room)) (letters v ev) ∙ w .so-far;
-        };
-      }
-        where
-          vp : (getD sa l 0 ≤ x) × (getD sc l 0 ≤ y) × (rest < walksTo (p .k) (p .wall) sa sc (x - getD sa l 0) (y - getD sc l 0))
-          vp = via-pos (p .k) (p .wall) sa sc (pos-of plan-of) x y l rest (omega (arith, so .left, so .falls .high))
-
-          go-on : 1 ≤ getD sa l 0
-          go-on = pos-of plan-of l (so .falls .inside)
-
-          letters : (v : ℕ) → v ≡ glyphOf lettered l → map (glyphOf lettered) (unr (p .k) (p .wall) sa sc x y left) ≡ v ∷ map (glyphOf lettered) (unr (p .k) (p .wall) sa sc (x - getD sa l 0) (y - getD sc l 0) rest)
-          letters v ev = ap (map (glyphOf lettered)) (unr-step (p .k) (p .wall) sa sc (pos-of plan-of) x y left l rest inside-of so (vp .0) (vp .1)) ∙ ap (λ (z : ℕ). z ∷ map (glyphOf lettered) (unr (p .k) (p .wall) sa sc (x - getD sa l 0) (y - getD sc l 0) rest)) (sym ev)
-
-      -- by the step that `seek` finds
-      pub picked : {l rest : ℕ} → Sought (broughtAt sa off val x cell) (p .k) left l rest → NextLetter lettered p sa sc off val r buf₀ buf x y cell s l rest
-      picked {l} {rest} so = next-letter l rest (reads-sought reads-of so)
+          so-far = write-turn buf s v (map (glyphOf lettered) (unr (p .k) (p .wall) sa sc x y left)) _ (omega (arith, w .x-le)) (omega (arith, w .s-le, w .room)) letters ∙ w .so-far;
+        }

@@ -3,7 +3,7 @@
 --   source-left, source-in    where a step finds what it brings
 --   rows, grow, one-more      rows of cells
 --   ends-back                 from one step back the end can still be reached
---   brings                    what stands where a step comes from is what it brings
+--   brings, brings-back       what stands where a step comes from is what it brings, and so is what stands as far back as its offset says
 --   none-below, none-above    a height that matters and isn't in the run has no walks
 --   sheet-next, sheet-same    the sheet after a column, and where a column has no height that matters
 --   run-of                    a column's run can be summed
@@ -15,7 +15,7 @@ use mathlib.Core.List.{List}
 use Prim.Native.Nat.{ℕ, _+_, _-_, _*_, _^_, _≤_, _<_}
 use native.Mathlib.Omega.{arith}
 use native.Mathlib.Decide.{decLe, decLt}
-use native.Mathlib.Nat.{mul-add, add-mul, mul-le-mul-right, le-trans}
+use native.Mathlib.Nat.{add-zero, mul-add, add-mul, mul-le-mul-right, le-trans}
 use lib.ListN.{length, getD}
 use borrow.Author.Count.{below-more}
 use borrow.Author.Tests.{lt-ltb, le-ltb}
@@ -55,7 +55,7 @@ ends-back {sa = sa} {hi = hi} {ex = ex} pl ey x y i lx en l ha hc =
     let e : ex - (x - getD sa i 0) ≡ ex - x + getD sa i 0 = omega arith in
     (omega (arith, en .0), omega (arith, en .1, pl .steep i l (omega arith), mul-add hi (ex - x) (getD sa i 0), ap (λ (z : ℕ). hi * z) e))
 
-module _ {k : ℕ} {f : Wall} {sa sc off : List ℕ} {hi m ex ey : ℕ} (pl : Slopes k sa sc hi m ex) (of : Offsets sa sc off (strideOf m ey)) {A : Type 0} {T : ℕ → A} {at : ℕ → A} {x : ℕ} (tb : Cells T at k f sa sc hi m ex ey x) (px : 1 ≤ x) (lx : x ≤ ex) where
+module _ {k : ℕ} {f : Wall} {sa sc off : List ℕ} {hi m ex ey : ℕ} (pl : Slopes k sa sc hi m ex) (of : Offsets sa sc off (strideOf m ey)) {A : Type 0} {T : ℕ → A} {at : ℕ → A} {x : ℕ} (tb : Cells T at k f sa sc hi m ex ey x) (lx : x ≤ ex) where
   -- what stands where a step comes from
   module _ (from t i : ℕ) (li : i < 8) (le : from + t ≤ ey) (en : 6 * ey ≤ 6 * (from + t) + hi * (ex - x)) where
     a : ℕ
@@ -86,6 +86,15 @@ module _ {k : ℕ} {f : Wall} {sa sc off : List ℕ} {hi m ex ey : ℕ} (pl : Sl
               ])
           | no ha ↦ rw (source-left sa off x (place m ey x from) i (omega arith)) (tb .front (0 + t) (omega arith) ∙ ap T (sym (via-left k f sa sc x (from + t) i (omega arith))))
         ]
+
+  -- a step that leads left of the start ends in the zeros in front by its offset too
+  pub brings-back : (y i : ℕ) → i < 8 → Ends hi ex ey x y → at (place m ey x y - getD off i 0) ≡ T (via k f sa sc x y i)
+  brings-back y i li en =
+      elim (decLe (getD sa i 0) x) [
+        | yes ha ↦ rw (add-zero (sourceOf sa off x (place m ey x y) i), add-zero y, source-in sa off x (place m ey x y) i ha) at (brings y 0 i li (omega (arith, en .0)) (omega (arith, en .1)))
+        | no ha ↦ tb .front (place m ey x y - getD off i 0) (omega (arith, en .0, of .is i li, grow (strideOf m ey) (x + 1) (getD sa i 0) (omega arith)))
+            ∙ ap T (sym (via-left k f sa sc x y i (omega arith)))
+      ]
 
   -- a height that matters and isn't in the run has no walks
   module _ (from to : ℕ) (fr : From f hi ex ey x from) (up : To f hi ey x to) where
@@ -135,7 +144,7 @@ module _ {k : ℕ} {f : Wall} {sa sc off : List ℕ} {hi m ex ey : ℕ} (pl : Sl
     ends-at t l = (omega (arith, up .under), omega (arith, fr .ends))
 
     sums : (t : ℕ) → from + t < to → colOf n val sa off x (place m ey x from) t ≡ sum (via k f sa sc x (from + t)) n
-    sums t l = sum-cong _ _ n (λ i li. brings pl of (tb .cells) px lx from t i (omega arith) (ends-at t l .0) (ends-at t l .1))
+    sums t l = sum-cong _ _ n (λ i li. brings pl of (tb .cells) lx from t i (omega arith) (ends-at t l .0) (ends-at t l .1))
 
     sums-are : (t : ℕ) → from + t < to → colOf n val sa off x (place m ey x from) t ≡ walksTo k f sa sc x (from + t)
     sums-are t l = sums t l ∙ sym (walks-first k f sa sc pl n n-pos n-le gone x (from + t) px lx (wall-in fr up (from + t) (omega arith) l))
@@ -168,8 +177,8 @@ module _ {k : ℕ} {f : Wall} {sa sc off : List ℕ} {hi m ex ey : ℕ} (pl : Sl
     -- no sum is large if none of the run is
     run-small : Small k f sa sc hi ex ey x → ((y : ℕ) → from ≤ y → y < to → walksTo k f sa sc x y ≤ 2305843009213693951) → Small k f sa sc hi ex ey (x + 1)
     run-small sm here = small-next sm (λ y en. elim (decLt y from) [
-      | yes l ↦ omega (arith, none-below pl of (tb .cells) px lx from to fr up y en l)
-      | no l ↦ elim (decLe to y) [ yes q ↦ omega (arith, none-above pl of (tb .cells) px lx from to fr up y en q) | no q ↦ here y (omega arith) (omega arith) ]
+      | yes l ↦ omega (arith, none-below pl of (tb .cells) lx from to fr up y en l)
+      | no l ↦ elim (decLe to y) [ yes q ↦ omega (arith, none-above pl of (tb .cells) lx from to fr up y en q) | no q ↦ here y (omega arith) (omega arith) ]
     ])
 
     -- the table after a column
@@ -181,7 +190,7 @@ module _ {k : ℕ} {f : Wall} {sa sc off : List ℕ} {hi m ex ey : ℕ} (pl : Sl
           rw g (co .here (y - from) (omega arith) ∙ sums-are n n-pos n-le gone from to fr up (y - from) (omega arith) ∙ ap (walksTo k f sa sc x) e)
 
       pub column-table : Table k f sa sc hi m ex ey val′ (x + 1)
-      column-table = sheet-next pl of (tb .cells) px lx from to fr up (tb .blank) (λ j. getD val′ j 0) (co .before) after-at here-at
+      column-table = sheet-next pl of (tb .cells) lx from to fr up (tb .blank) (λ j. getD val′ j 0) (co .before) after-at here-at
         where
           after-at : (j : ℕ) → place m ey x to ≤ j → getD val′ j 0 ≡ getD val j 0
           after-at j l = co .after j (omega arith)
@@ -195,4 +204,4 @@ module _ {k : ℕ} {f : Wall} {sa sc off : List ℕ} {hi m ex ey : ℕ} (pl : Sl
     empty-small le sm = run-small sm (λ y p q. absurd (omega arith))
 
     pub empty-table : to ≤ from → Table k f sa sc hi m ex ey val (x + 1)
-    empty-table le = sheet-same pl of (tb .cells) px lx from to fr up (tb .blank) le
+    empty-table le = sheet-same pl of (tb .cells) lx from to fr up (tb .blank) le

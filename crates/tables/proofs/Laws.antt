@@ -7,6 +7,7 @@
 --   onward                           every step goes on, and the wall lets a walk begin
 --   walks-start, walks-out, walks-step           the counts of column 0, beyond the wall, and elsewhere
 --   via-left, via-under, via-in      what a step brings
+--   via-pos, walks-in                where there are walks, the step and the spot are inside
 --   via-any                          what holds of 0 and of every count before holds of what a step brings
 --   cap-lt, cap-ge, cap-count, cap-over, count-over, cell-zero, cell-over, cell-value    answers
 --   total-done, total-over, total-more, total-wraps    the loop over the steps
@@ -33,7 +34,7 @@ use Rattle.tables.specs.declared.Tally.{Tally}
 use Rattle.tables.specs.declared.Tally.the-variants.{Count, Over}
 use Rattle.tables.specs.Form.{wall, stepsIn, spot, walksTo, via}
 use Rattle.tables.specs.Cells.{capBy, capOf, cellOf, Put}
-use Rattle.tables.proofs.Walls.{wall-start}
+use Rattle.tables.proofs.Walls.{tested, wall-start}
 use Rattle.tables.specs.declared.Wall.{Wall}
 
 -- ---- sums
@@ -76,6 +77,13 @@ module _ (k : ℕ) (f : Wall) (sa sc : List ℕ) where
     unfolding via walksTo
     via-in h l = rw (le-leb (getD sa i 0) x h, le-leb (getD sc i 0) y l)
 
+    -- a step that brings something comes from inside the table
+    pub via-pos : (rest : ℕ) → rest < via k f sa sc x y i → (getD sa i 0 ≤ x) × (getD sc i 0 ≤ y) × (rest < walksTo k f sa sc (x - getD sa i 0) (y - getD sc i 0))
+    via-pos rest h = elim (decLe (getD sa i 0) x) [
+      | yes a ↦ elim (decLe (getD sc i 0) y) [ yes c ↦ (a, c, omega (arith, via-in a c)) | no r ↦ absurd (omega (arith, via-under a (omega arith))) ]
+      | no r ↦ absurd (omega (arith, via-left (omega arith)))
+    ]
+
   pub via-any : (P : ℕ → Type 0) (x y i : ℕ) → P 0 → (getD sa i 0 ≤ x → getD sc i 0 ≤ y → P (walksTo k f sa sc (x - getD sa i 0) (y - getD sc i 0))) → P (via k f sa sc x y i)
   via-any P x y i z h =
       elim (decLe (getD sa i 0) x) [
@@ -95,6 +103,9 @@ module _ (k : ℕ) (f : Wall) (sa sc : List ℕ) where
     pub walks-step : (x y : ℕ) → 0 < x → T (wall f x y) → walksTo k f sa sc x y ≡ sum (via k f sa sc x y) k
     unfolding walksTo via
     walks-step x y p h = paths-step (stepsIn k f sa sc) (onward k f sa sc pos) (spot x y) p h
+
+    pub walks-in : (x y r : ℕ) → r < walksTo k f sa sc x y → T (wall f x y)
+    walks-in x y r h = elim (tested (wall f x y)) [ yes p ↦ p | no q ↦ absurd (omega (arith, walks-out x y q)) ]
 
 -- ---- answers
 

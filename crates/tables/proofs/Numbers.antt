@@ -1,27 +1,28 @@
 -- The number of an edge, read from its end over a filled table. Assumes nothing.
 --
+--   Every                        P holds of all steps whose readable table it is, and there are such; one: of these; onto: so does what follows from P
 --   brought                      what a last step stands for, in the reader's words and in the table's
 --   num, num-all, num-none, num-step    the number of the first i letters, to (x, y)
---   Stand                        (x, y) at a cell lies before the end, and its count fits
---   stand-in, stand-is           what such a cell holds; barren: no string leads to where no walk does
---   reads-at, stand-back         what can be read at a cell that stands before the end, and one step back
---   read-in, read-is, read-more  the loop of `part_sum`
+--   Stand                        (x, y) at a cell lies before the end, and its count fits; end-stand, end-is: the end, and what its cell holds
+--   stand-in, stand-is           what such a cell holds; stand-start, stand-apart: whether it is the start's
+--   all-le, reads-at, stand-back    what the steps bring to it can be read, and fits; one step back
+--   read-is, read-more           the loop of `part_sum`
 --   reads-sum, reads-summed, reads-sought    what the cells say is what the steps bring
---   Walking, walking-start, last-in, cell-byte, not-there, there, step-in, step-byte, Stepped, stepped, step-as, step-sum, ends-fit, walking-end    the loop of `read`
---   not-letter, not-right, not-up, not-start    where it finds that the bytes are no edge
+--   barren                       no string leads to where no walk does
+--   Walking, walking-start, walking-reads, walking-fits, stepped, walking-end    the loop of `read`
+--   not-there, not-letter, not-back, not-start    where it finds that the bytes are no edge
 use mathlib.Core.Path.{_≡_, refl, sym, ap, _∙_}
 use mathlib.Core.Bool.{Bool, false}
 use mathlib.Core.List.{List, _∷_}
 use Prim.Native.Nat.{ℕ, _+_, _-_, _*_, _^_, _≤_, _<_}
 use native.Mathlib.Omega.{arith}
-use native.Mathlib.Decide.{decLe}
-use native.Mathlib.Nat.{add-zero}
+use native.Mathlib.Decide.{decLe, decLt}
 use lib.Dec.{T}
 use lib.ListN.{length, getD}
 use borrow.Author.Tests.{eq-eqb, ne-eqb}
 use Rattle.howmany.specs.Sum.{sum}
 use Rattle.howmany.proofs.Choices.{is-false}
-use Rattle.howmany.proofs.Sums.{sum-cong, sum-mono, sum-below}
+use Rattle.howmany.proofs.Sums.{sum-none, sum-cong, sum-mono, sum-below}
 use Rattle.lines.specs.declared.Rank.the-variants.{At, NoEdge}
 use Rattle.backward.specs.Reader.{rank, count}
 use Rattle.backward.specs.Grid.{grid, paths}
@@ -29,19 +30,31 @@ use Rattle.backward.proofs.Backward.{rank-below}
 use Rattle.backward.proofs.Grids.{back-count, grid-lawful}
 use Rattle.tables.specs.Form.{wall, stepsIn, spot, walksTo, via}
 use Rattle.letters.specs.Letters.{placeOf}
-use Rattle.tables.specs.Cells.{capOf, cellAt, place, sourceOf}
+use Rattle.tables.specs.Cells.{capOf, cellAt, place}
 use Rattle.tables.specs.declared.Plan as plans
 use Rattle.tables.specs.Table.{Ends, Cells}
-use Rattle.tables.specs.Plans.{strideFor, walksFor, validFor, rankFor, RankFor}
-use Rattle.tables.specs.Filling.{AllRight, Readable}
+use Rattle.tables.specs.Plans.{strideFor, startFor, endFor, walksFor, validFor, rankFor, RankFor}
+use Rattle.tables.specs.Filling.{AllRight, Readable, Legible, BySteps}
 use Rattle.tables.specs.Edges.{walkEnd, walkNumber, broughtAt, Summed, Reads, Sought}
-use Rattle.tables.proofs.Laws.{onward, sum-more, via-in, walks-out, walks-step, cell-value}
-use Rattle.tables.proofs.Walls.{tested}
+use Rattle.tables.proofs.Laws.{onward, sum-more, via-left, via-in, via-pos, walks-in, walks-step, cell-value}
 use Rattle.tables.proofs.Counts.{pos-of}
-use Rattle.tables.proofs.Columns.{source-left, source-in, rows, grow, ends-back, brings}
+use Rattle.tables.proofs.Columns.{rows, grow, ends-back, brings-back}
 use Rattle.tables.proofs.Phases.{last-row}
 use Rattle.tables.proofs.Reading.{wordTo, word-all, word-cons, word-none, back-is, end-in, ok, ok-all, ok-end, ok-no-letter, ok-left, ok-under, ok-step}
 use Rattle.tables.specs.declared.Wall.{Wall}
+
+-- ---- where only the offsets of the steps are at hand
+
+pub record Every (p : plans.Plan) (off val : List ℕ) (P : List ℕ → List ℕ → Type 0) : Type 0 where
+  pub some : Legible p off val
+  pub all : BySteps p off val P
+
+module _ {p : plans.Plan} {off val : List ℕ} {P : List ℕ → List ℕ → Type 0} (w : Every p off val P) where
+  pub one : P (w .some .sa) (w .some .sc)
+  one = w .all (w .some .sa) (w .some .sc) (w .some .readable)
+
+  pub onto : {Q : List ℕ → List ℕ → Type 0} → ((sa sc : List ℕ) → Readable p sa sc off val → P sa sc → Q sa sc) → Every p off val Q
+  onto g = record { some = w .some; all = λ sa sc fu. g sa sc fu (w .all sa sc fu) }
 
 -- ---- numbers of words
 
@@ -87,76 +100,76 @@ cells-less s x l = record { right = λ u y h en. s .flags .right u y (omega arit
 
 -- what a cell that stands before the end holds
 module _ {p : plans.Plan} {sa sc off val : List ℕ} (fu : Readable p sa sc off val) {x y cell : ℕ} (sp : Stand p sa sc x y cell) where
-  row-in : (x + 1) * strideFor p + strideFor p ≤ length val
-  row-in = omega (arith, fu .ready .room, last-row x (strideFor p), grow (strideFor p) (x + 2) (p .ex + 2) (omega (arith, sp .end)))
-
   pub stand-in : cell < length val
-  stand-in = omega (arith, sp .at, sp .ends .0, row-in)
+  stand-in = omega (arith, sp .at, sp .ends .0, fu .ready .room, last-row x (strideFor p), grow (strideFor p) (x + 2) (p .ex + 2) (omega (arith, sp .end)))
 
   pub stand-is : getD val cell 0 ≡ walksTo (p .k) (p .wall) sa sc x y
   stand-is = cell-value _ (getD (fu .solid .ov) cell 0) _ (rw (sp .at) (fu .solid .flags .right x y (omega (arith, sp .end)) (sp .ends))) (sp .fits)
 
-module _ {p : plans.Plan} {sa sc off val : List ℕ} (fu : Readable p sa sc off val) {x y cell : ℕ} (sp : Stand p sa sc x y cell) (px : 1 ≤ x) (ins : T (wall (p .wall) x y)) where
-  all-of : walksTo (p .k) (p .wall) sa sc x y ≡ sum (via (p .k) (p .wall) sa sc x y) (p .k)
-  all-of = walks-step (p .k) (p .wall) sa sc (pos-of (fu .ready .slopes)) x y px ins
+  -- the start's cell is that of no other spot
+  module _ {start : ℕ} (es : start ≡ startFor p) where
+    pub stand-start : cell ≡ start → x + y ≤ 0
+    stand-start e = elim (decLt 0 x) [
+      | yes l ↦ absurd (omega (arith, sp .at, grow (strideFor p) 2 (x + 1) (omega arith)))
+      | no l ↦ let z : x ≡ 0 = omega arith in omega (arith, sp .at, ap (λ (u : ℕ). (u + 1) * strideFor p) z)
+    ]
 
-  via-le : (i : ℕ) → i < p .k → via (p .k) (p .wall) sa sc x y i ≤ walksTo (p .k) (p .wall) sa sc x y
-  via-le i l = omega (arith, all-of, sum-below (via (p .k) (p .wall) sa sc x y) i (p .k) l)
+    pub stand-apart : (cell ≡ start → ⊥) → 0 < x + y
+    stand-apart n = elim (decLt 0 (x + y)) [
+      | yes l ↦ l
+      | no l ↦ let z : x ≡ 0 = omega arith in absurd (n (omega (arith, sp .at, ap (λ (u : ℕ). (u + 1) * strideFor p) z)))
+    ]
+
+module _ {p : plans.Plan} {sa sc off val : List ℕ} (fu : Readable p sa sc off val) {x y cell : ℕ} (sp : Stand p sa sc x y cell) (ins : T (wall (p .wall) x y)) where
+  pub all-le : sum (via (p .k) (p .wall) sa sc x y) (p .k) ≤ walksTo (p .k) (p .wall) sa sc x y
+  all-le = elim (decLt 0 x) [
+    | yes px ↦ omega (arith, walks-step (p .k) (p .wall) sa sc (pos-of (fu .ready .slopes)) x y px ins)
+    | no z ↦ omega (arith, sum-none (via (p .k) (p .wall) sa sc x y) (p .k) (λ i h. via-left (p .k) (p .wall) sa sc x y i (omega (arith, pos-of (fu .ready .slopes) i h))))
+  ]
+
+  -- the steps before i, and i itself, bring no more than all
+  part-le : (i : ℕ) → i < p .k → sum (via (p .k) (p .wall) sa sc x y) i + via (p .k) (p .wall) sa sc x y i ≤ walksTo (p .k) (p .wall) sa sc x y
+  part-le i l = omega (arith, all-le, sum-below (via (p .k) (p .wall) sa sc x y) i (p .k) l)
 
   eight : (i : ℕ) → i < p .k → i < 8
   eight i l = omega (arith, fu .ready .slopes .most)
 
   pub reads-at : Reads (p .k) (p .wall) sa sc off val x y cell
-  reads-at = rw (sp .at) (record {
+  reads-at = record {
     most = fu .ready .slopes .most;
-    back = λ i l ha. omega (arith, fu .ready .offs .is i (eight i l), fu .ready .slopes .deep i (eight i l) (omega (arith, sp .end)), rows (strideFor p) x (getD sa i 0) ha);
-    in-val = λ i l. elim (decLe (getD sa i 0) x) [
-      | yes ha ↦ rw (source-in sa off x (place (p .deep) (p .ey) x y) i ha) (omega (arith, row-in fu sp, sp .ends .0))
-      | no ha ↦ rw (source-left sa off x (place (p .deep) (p .ey) x y) i (omega arith)) (omega (arith, row-in fu sp))
-    ];
-    says = λ i l. cell-value _ (getD (fu .solid .ov) (sourceOf sa off x (place (p .deep) (p .ey) x y) i) 0) _
-        (rw (add-zero (sourceOf sa off x (place (p .deep) (p .ey) x y) i), add-zero y) at (brings (fu .ready .slopes) (fu .ready .offs) (cells-less (fu .solid) x (sp .end)) px (sp .end) y 0 i (eight i l)
-        (omega (arith, sp .ends .0)) (omega (arith, sp .ends .1))))
-        (omega (arith, via-le i l, sp .fits));
-    fits = omega (arith, all-of, sp .fits);
-  })
-
-  pub stand-back : (l a c o : ℕ) → l < p .k → a ≡ getD sa l 0 → c ≡ getD sc l 0 → o ≡ getD off l 0 → getD sa l 0 ≤ x → getD sc l 0 ≤ y → Stand p sa sc (x - a) (y - c) (cell - o)
-  stand-back l a c o h ea ec eo ha hc = rw (ea, ec, eo) (record {
-    end = omega (arith, sp .end);
-    ends = ends-back (fu .ready .slopes) (p .ey) x y l (sp .end) (sp .ends) (eight l h) ha hc;
-    at = omega (arith, sp .at, fu .ready .offs .is l (eight l h), rows (strideFor p) x (getD sa l 0) ha);
-    fits = omega (arith, via-le l h, sp .fits, via-in (p .k) (p .wall) sa sc x y l ha hc);
-  })
-
-module _ {n : ℕ} {sa off val : List ℕ} {x p : ℕ} (rd : Summed n sa off val x p) (i : ℕ) (h : i < n) {s : ℕ} (es : s ≡ sourceOf sa off x p i) where
-  abbrev each : ℕ → ℕ
-  each = broughtAt sa off val x p
-
-  pub read-in : s < length val
-  read-in = omega (arith, rd .in-val i h)
-
-  pub read-is : getD val s 0 ≡ each i
-  read-is = ap (λ (j : ℕ). getD val j 0) es
-
-  pub read-more : {acc : ℕ} → acc ≡ sum each i → (acc + getD val s 0 ≡ sum each (i + 1)) × (acc + getD val s 0 < 2 ^ 64)
-  read-more {acc} ea =
-      (omega (arith, sum-more each i, read-is), omega (arith, sum-more each i, read-is, sum-mono each (i + 1) n (omega arith), rd .fits))
-
-module _ {k : ℕ} {f : Wall} {sa sc off val : List ℕ} {x y p : ℕ} (rd : Reads k f sa sc off val x y p) where
-  pub reads-sum : (l : ℕ) → l ≤ k → sum (broughtAt sa off val x p) l ≡ sum (via k f sa sc x y) l
-  reads-sum l h = sum-cong (broughtAt sa off val x p) (via k f sa sc x y) l (λ i b. rd .says i (omega arith))
-
-  pub reads-summed : (l : ℕ) → l ≤ k → Summed l sa off val x p
-  reads-summed l h = record {
-    most = omega (arith, rd .most);
-    back = λ i b. rd .back i (omega arith);
-    in-val = λ i b. rd .in-val i (omega arith);
-    fits = omega (arith, reads-sum l h, sum-mono (via k f sa sc x y) l k h, rd .fits);
+    inside = stand-in fu sp;
+    says = λ i l. cell-value _ (getD (fu .solid .ov) (cell - getD off i 0) 0) _
+        (rw (sp .at) (brings-back (fu .ready .slopes) (fu .ready .offs) (cells-less (fu .solid) x (sp .end)) (sp .end) y i (eight i l) (sp .ends)))
+        (omega (arith, part-le i l, sp .fits));
+    fits = omega (arith, all-le, sp .fits);
   }
 
+  pub stand-back : (l : ℕ) → l < p .k → {from : ℕ} → from ≡ cell - getD off l 0 → getD sa l 0 ≤ x → getD sc l 0 ≤ y → Stand p sa sc (x - getD sa l 0) (y - getD sc l 0) from
+  stand-back l h ef ha hc = record {
+    end = omega (arith, sp .end);
+    ends = ends-back (fu .ready .slopes) (p .ey) x y l (sp .end) (sp .ends) (eight l h) ha hc;
+    at = omega (arith, ef, sp .at, fu .ready .offs .is l (eight l h), rows (strideFor p) x (getD sa l 0) ha);
+    fits = omega (arith, part-le l h, sp .fits, via-in (p .k) (p .wall) sa sc x y l ha hc);
+  }
+
+-- the loop of `part_sum`: s is where step i comes from
+module _ {n : ℕ} {off val : List ℕ} {p : ℕ} (rd : Summed n off val p) (i : ℕ) {s : ℕ} (es : s ≡ p - getD off i 0) where
+  pub read-is : getD val s 0 ≡ broughtAt off val p i
+  read-is = ap (λ (j : ℕ). getD val j 0) es
+
+  pub read-more : i < n → {acc : ℕ} → acc ≡ sum (broughtAt off val p) i → (acc + getD val s 0 ≡ sum (broughtAt off val p) (i + 1)) × (acc + getD val s 0 < 2 ^ 64)
+  read-more h ea =
+      let e = sum-more (broughtAt off val p) i in let v = read-is in (omega arith, omega (arith, sum-mono (broughtAt off val p) (i + 1) n (omega arith), rd .fits))
+
+module _ {k : ℕ} {f : Wall} {sa sc off val : List ℕ} {x y p : ℕ} (rd : Reads k f sa sc off val x y p) where
+  pub reads-sum : (l : ℕ) → l ≤ k → sum (broughtAt off val p) l ≡ sum (via k f sa sc x y) l
+  reads-sum l h = sum-cong (broughtAt off val p) (via k f sa sc x y) l (λ i b. rd .says i (omega arith))
+
+  pub reads-summed : (l : ℕ) → l ≤ k → Summed l off val p
+  reads-summed l h = record { most = omega (arith, rd .most); inside = rd .inside; fits = omega (arith, reads-sum l h, sum-mono (via k f sa sc x y) l k h, rd .fits) }
+
   -- the last step of a number, by what the cells say
-  pub reads-sought : {r l rest : ℕ} → Sought (broughtAt sa off val x p) k r l rest → Sought (via k f sa sc x y) k r l rest
+  pub reads-sought : {r l rest : ℕ} → Sought (broughtAt off val p) k r l rest → Sought (via k f sa sc x y) k r l rest
   reads-sought {r} {l} {rest} so =
       let e = reads-sum l (omega (arith, so .falls .inside)) in
       record {
@@ -173,123 +186,112 @@ barren lettered k f sa sc pos e i x y z =
     is-false (ok lettered k f sa sc e i x y)
     (λ t. omega (arith, z, rank-below (grid G) (grid-lawful G (onward k f sa sc pos)) (wordTo (placeOf lettered) e i) (walkEnd k f sa sc x y) t))
 
--- ---- the loop of `read`: the letters from i on led back from the end to (x, y). What they stand for and all walks to (x, y) are no more
--- than the walks to the end, so that the sum fits, be the bytes an edge or not
+-- ---- the loop of `read`: the letters from i on led back from the end to some (x, y), whose cell it is. What they stand for and all walks to
+-- (x, y) are no more than the walks to the end, so that the sum fits, be the bytes an edge or not
 
-pub record Walking (lettered : Bool) (p : plans.Plan) (sa sc off val e : List ℕ) (acc x y cell i : ℕ) : Type 0 where
+pub record Walking (lettered : Bool) (p : plans.Plan) (sa sc off val e : List ℕ) (acc cell i : ℕ) : Type 0 where
+  pub x : ℕ
+  pub y : ℕ
   pub full : Readable p sa sc off val
   pub i-le : i ≤ length e
+  pub inside : T (wall (p .wall) x y)
   pub stand : Stand p sa sc x y cell
   pub under : acc + walksTo (p .k) (p .wall) sa sc x y ≤ walksFor p sa sc
   pub same : ok lettered (p .k) (p .wall) sa sc e i x y ≡ validFor lettered p sa sc e
   pub total : acc + num lettered (p .k) (p .wall) sa sc e i x y ≡ rankFor lettered p sa sc e
 
-pub record Stepped (lettered : Bool) (p : plans.Plan) (sa sc off val e : List ℕ) (acc x y cell i l : ℕ) : Type 0 where
-  pub fewer : i - 1 < i
-  pub below : l ≤ p .k
-  pub reads : Reads (p .k) (p .wall) sa sc off val x y cell
-  pub far : getD off l 0 ≤ cell
-  pub fits : {v : ℕ} → v ≡ sum (via (p .k) (p .wall) sa sc x y) l → acc + v < 2 ^ 64
-  pub next : {v : ℕ} → v ≡ sum (via (p .k) (p .wall) sa sc x y) l → Walking lettered p sa sc off val e (acc + v) (x - getD sa l 0) (y - getD sc l 0) (cell - getD off l 0) (i - 1)
+pub end-stand : {p : plans.Plan} {sa sc off val : List ℕ} → Readable p sa sc off val → {cell : ℕ} → cell ≡ endFor p → Stand p sa sc (p .ex) (p .ey) cell
+end-stand fu ep = record { end = omega arith; ends = (omega arith, omega arith); at = ep; fits = fu .fits }
 
--- the same by numbers that the code has at hand
-pub step-as : {lettered : Bool} {p : plans.Plan} {sa sc off val e : List ℕ} {acc x y cell i l : ℕ} → Stepped lettered p sa sc off val e acc x y cell i l → {a u o v t : ℕ}
-    → a ≡ getD sa l 0 → u ≡ getD sc l 0 → o ≡ getD off l 0 → v ≡ sum (via (p .k) (p .wall) sa sc x y) l → t ≡ acc + v → Walking lettered p sa sc off val e t (x - a) (y - u) (cell - o) (i - 1)
-step-as s ea eu eo ev et = rw (et, ea, eu, eo) (s .next ev)
+pub end-is : {p : plans.Plan} {sa sc off val : List ℕ} → Readable p sa sc off val → getD val (endFor p) 0 ≡ walksFor p sa sc
+end-is fu = stand-is fu (end-stand fu refl)
 
--- what the cells say of the steps before l
-pub step-sum : {lettered : Bool} {p : plans.Plan} {sa sc off val e : List ℕ} {acc x y cell i l : ℕ} → Stepped lettered p sa sc off val e acc x y cell i l → {v : ℕ}
-    → v ≡ sum (broughtAt sa off val x cell) l → v ≡ sum (via (p .k) (p .wall) sa sc x y) l
-step-sum {l = l} s e = e ∙ reads-sum (s .reads) l (s .below)
+module _ (lettered : Bool) {p : plans.Plan} {sa sc off val : List ℕ} (e : List ℕ) (fu : Readable p sa sc off val) {cell : ℕ} (ep : cell ≡ endFor p) where
+  -- the end's cell says whether a walk leads there at all
+  pub not-there : getD val cell 0 ≡ 0 → RankFor lettered p sa sc e NoEdge
+  not-there z =
+      sym (ok-all lettered (p .k) (p .wall) sa sc e (p .ex) (p .ey))
+      ∙ barren lettered (p .k) (p .wall) sa sc (pos-of (fu .ready .slopes)) e (length e) (p .ex) (p .ey) (sym (stand-is fu (end-stand fu ep)) ∙ z)
 
-module _ {lettered : Bool} {p : plans.Plan} {sa sc off val e : List ℕ} where
-  pub walking-start : Readable p sa sc off val → {cell : ℕ} → cell ≡ place (p .deep) (p .ey) (p .ex) (p .ey) → Walking lettered p sa sc off val e 0 (p .ex) (p .ey) cell (length e)
-  walking-start fu ep = record {
+  pub walking-start : (getD val cell 0 ≡ 0 → ⊥) → Walking lettered p sa sc off val e 0 cell (length e)
+  walking-start n = record {
+    x = p .ex;
+    y = p .ey;
     full = fu;
     i-le = omega arith;
-    stand = record { end = omega arith; ends = (omega arith, omega arith); at = ep; fits = fu .fits };
+    inside = walks-in (p .k) (p .wall) sa sc (pos-of (fu .ready .slopes)) (p .ex) (p .ey) 0 (omega (arith, stand-is fu (end-stand fu ep)));
+    stand = end-stand fu ep;
     under = omega arith;
     same = ok-all lettered (p .k) (p .wall) sa sc e (p .ex) (p .ey);
     total = omega (arith, num-all lettered (p .k) (p .wall) sa sc e (p .ex) (p .ey));
   }
 
-  module _ {acc x y cell i : ℕ} (w : Walking lettered p sa sc off val e acc x y cell i) where
-    pub last-in : 0 < i → i - 1 < length e
-    last-in h = omega (arith, w .i-le)
+module _ {lettered : Bool} {p : plans.Plan} {sa sc off val e : List ℕ} where
+  module _ {acc cell i : ℕ} (w : Walking lettered p sa sc off val e acc cell i) where
+    abbrev x : ℕ
+    x = w .x
 
-    pub step-in : {l : ℕ} → l < p .k → l < 8
-    step-in b = omega (arith, w .full .ready .slopes .most)
+    abbrev y : ℕ
+    y = w .y
 
-    pub step-byte : {l : ℕ} → l < p .k → l * 8 < 2 ^ 64
-    step-byte b = omega (arith, w .full .ready .slopes .most)
+    abbrev each : ℕ → ℕ
+    each = via (p .k) (p .wall) sa sc x y
+
+    pos : (j : ℕ) → j < p .k → 1 ≤ getD sa j 0
+    pos = pos-of (w .full .ready .slopes)
+
+    pub walking-reads : Reads (p .k) (p .wall) sa sc off val x y cell
+    walking-reads = reads-at (w .full) (w .stand) (w .inside)
 
     no-edge : ok lettered (p .k) (p .wall) sa sc e i x y ≡ false → RankFor lettered p sa sc e NoEdge
     no-edge o = sym (w .same) ∙ o
 
-    pub cell-byte : cell * 8 < 2 ^ 64
-    cell-byte = omega (arith, w .stand .at, w .stand .end, w .stand .ends .0, w .full .ready .sizes .cells, grow (strideFor p) (x + 2) (p .ex + 2) (omega (arith, w .stand .end)), last-row x (strideFor p))
-
-    -- the cell says whether a walk leads there at all
-    pub not-there : getD val cell 0 ≡ 0 → RankFor lettered p sa sc e NoEdge
-    not-there z =
-        no-edge (barren lettered (p .k) (p .wall) sa sc (pos-of (w .full .ready .slopes)) e i x y (sym (stand-is (w .full) (w .stand)) ∙ z))
-
-    pub there : (getD val cell 0 ≡ 0 → ⊥) → T (wall (p .wall) x y)
-    there n = elim (tested (wall (p .wall) x y)) [
-      | yes t ↦ t
-      | no o ↦ absurd (n (stand-is (w .full) (w .stand) ∙ walks-out (p .k) (p .wall) sa sc (pos-of (w .full .ready .slopes)) x y o))
-    ]
+    -- what the steps before l bring fits beside what is summed
+    pub walking-fits : (l : ℕ) → l ≤ p .k → {v : ℕ} → v ≡ sum (broughtAt off val cell) l → acc + v < 2 ^ 64
+    walking-fits l b ev = omega (arith, reads-sum walking-reads l b, sum-mono each l (p .k) b, all-le (w .full) (w .stand) (w .inside), w .under, w .full .fits)
 
     module _ (h : 0 < i) {l : ℕ} (q : l ≡ placeOf lettered (getD e (i - 1) 0)) where
-      pos : (j : ℕ) → j < p .k → 1 ≤ getD sa j 0
-      pos = pos-of (w .full .ready .slopes)
+      pub not-letter : p .k ≤ l → RankFor lettered p sa sc e NoEdge
+      not-letter o = no-edge (ok-no-letter lettered (p .k) (p .wall) sa sc e pos i x y l h q (w .inside) o)
 
-      module _ (n : T (wall (p .wall) x y)) where
-        pub not-letter : p .k ≤ l → RankFor lettered p sa sc e NoEdge
-        not-letter o = no-edge (ok-no-letter lettered (p .k) (p .wall) sa sc e pos i x y l h q n o)
+      module _ (b : l < p .k) {from : ℕ} (ef : from ≡ cell - getD off l 0) where
+        brought-is : getD val from 0 ≡ each l
+        brought-is = ap (λ (z : ℕ). getD val z 0) ef ∙ walking-reads .says l b
 
-        pub not-right : x < getD sa l 0 → RankFor lettered p sa sc e NoEdge
-        not-right o = no-edge (ok-left lettered (p .k) (p .wall) sa sc e pos i x y l h q n o)
+        -- a step to a zero leads out of the grid, or to where no walk does
+        pub not-back : getD val from 0 ≡ 0 → RankFor lettered p sa sc e NoEdge
+        not-back z = no-edge (elim (decLe (getD sa l 0) x) [
+          | yes a ↦ elim (decLe (getD sc l 0) y) [
+            | yes c ↦ ok-step lettered (p .k) (p .wall) sa sc e pos i x y l h q (w .inside) b a c
+                ∙ barren lettered (p .k) (p .wall) sa sc pos e (i - 1) (x - getD sa l 0) (y - getD sc l 0) (sym (via-in (p .k) (p .wall) sa sc x y l a c) ∙ sym brought-is ∙ z)
+            | no c ↦ ok-under lettered (p .k) (p .wall) sa sc e pos i x y l h q (w .inside) a (omega arith)
+          ]
+          | no a ↦ ok-left lettered (p .k) (p .wall) sa sc e pos i x y l h q (w .inside) (omega arith)
+        ])
 
-        pub not-up : getD sa l 0 ≤ x → y < getD sc l 0 → RankFor lettered p sa sc e NoEdge
-        not-up a o = no-edge (ok-under lettered (p .k) (p .wall) sa sc e pos i x y l h q n a o)
+        pub stepped : (getD val from 0 ≡ 0 → ⊥) → {v : ℕ} → v ≡ sum (broughtAt off val cell) l → Walking lettered p sa sc off val e (acc + v) from (i - 1)
+        stepped n ev =
+            let vp = via-pos (p .k) (p .wall) sa sc x y l 0 (omega (arith, brought-is)) in
+            let t = via-in (p .k) (p .wall) sa sc x y l (vp .0) (vp .1) in
+            let s = reads-sum walking-reads l (omega arith) in
+            record {
+              x = x - getD sa l 0;
+              y = y - getD sc l 0;
+              full = w .full;
+              i-le = omega (arith, w .i-le);
+              inside = walks-in (p .k) (p .wall) sa sc pos (x - getD sa l 0) (y - getD sc l 0) 0 (vp .2);
+              stand = stand-back (w .full) (w .stand) (w .inside) l b ef (vp .0) (vp .1);
+              under = omega (arith, t, part-le (w .full) (w .stand) (w .inside) l b, w .under);
+              same = sym (ok-step lettered (p .k) (p .wall) sa sc e pos i x y l h q (w .inside) b (vp .0) (vp .1)) ∙ w .same;
+              total = omega (arith, w .total, num-step lettered (p .k) (p .wall) sa sc e pos i x y l h q (w .inside) (vp .0) (vp .1));
+            }
 
-        pub stepped : l < p .k → getD sa l 0 ≤ x → getD sc l 0 ≤ y → Stepped lettered p sa sc off val e acc x y cell i l
-        stepped b a c = record {
-          fewer = omega arith;
-          below = omega arith;
-          reads = rd;
-          far = rd .back l b a;
-          fits = λ ev. omega (arith, part, w .under, w .full .fits);
-          next = λ ev. record {
-            full = w .full;
-            i-le = omega (arith, w .i-le);
-            stand = stand-back (w .full) (w .stand) px n l _ _ _ b refl refl refl a c;
-            under = omega (arith, part, via-in (p .k) (p .wall) sa sc x y l a c, w .under);
-            same = sym (ok-step lettered (p .k) (p .wall) sa sc e pos i x y l h q n b a c) ∙ w .same;
-            total = omega (arith, w .total, num-step lettered (p .k) (p .wall) sa sc e pos i x y l h q n a c);
-          };
-        }
-          where
-            px : 1 ≤ x
-            px = omega (arith, pos l b)
+    module _ (h : i ≤ 0) {start : ℕ} (es : start ≡ startFor p) where
+      pub not-start : (cell ≡ start → ⊥) → RankFor lettered p sa sc e NoEdge
+      not-start n = let o = stand-apart (w .full) (w .stand) es n in no-edge (sym (ok-end lettered (p .k) (p .wall) sa sc e i x y h) ∙ ne-eqb (x + y) 0 (λ q. omega arith))
 
-            rd : Reads (p .k) (p .wall) sa sc off val x y cell
-            rd = reads-at (w .full) (w .stand) px n
-
-            -- the steps before l, and l itself, bring no more than all
-            part : sum (via (p .k) (p .wall) sa sc x y) l + via (p .k) (p .wall) sa sc x y l ≤ walksTo (p .k) (p .wall) sa sc x y
-            part = omega (arith, all-of (w .full) (w .stand) px n, sum-below (via (p .k) (p .wall) sa sc x y) l (p .k) b)
-
-    pub ends-fit : x + y < 2 ^ 64
-    ends-fit = omega (arith, w .stand .end, w .stand .ends .0, w .full .ready .sizes .ex-le, w .full .ready .sizes .ey-le)
-
-    module _ (h : i ≤ 0) where
-      pub not-start : 0 < x + y → RankFor lettered p sa sc e NoEdge
-      not-start o = no-edge (sym (ok-end lettered (p .k) (p .wall) sa sc e i x y h) ∙ ne-eqb (x + y) 0 (λ q. omega arith))
-
-      pub walking-end : x + y ≤ 0 → RankFor lettered p sa sc e (At acc)
-      walking-end o = (
+      pub walking-end : cell ≡ start → RankFor lettered p sa sc e (At acc)
+      walking-end q = let o = stand-start (w .full) (w .stand) es q in (
         sym (w .same) ∙ sym (ok-end lettered (p .k) (p .wall) sa sc e i x y h) ∙ eq-eqb (x + y) 0 (omega arith),
         omega (arith, w .total, num-none lettered (p .k) (p .wall) sa sc e i x y h),
       )

@@ -151,7 +151,7 @@ module _ {p : Plan} {sa sc off : List ℕ} {val₀ ov₀ : List ℕ} {x from to 
     parts-say : Says sa off val ov x (place (p .deep) (p .ey) x y) (via (p .k) (p .wall) sa sc x y)
     parts-say i l =
         pt .before (sourceOf sa off x (place (p .deep) (p .ey) x y) i) (source-lt i l)
-        ∙ rw (add-zero (sourceOf sa off x (place (p .deep) (p .ey) x y) i), add-zero y) at (brings (s .turn .ready .slopes) (s .turn .ready .offs) (s .turn .table .cells) (s .turn .start) (s .turn .end) y 0 i l
+        ∙ rw (add-zero (sourceOf sa off x (place (p .deep) (p .ey) x y) i), add-zero y) at (brings (s .turn .ready .slopes) (s .turn .ready .offs) (s .turn .table .cells) (s .turn .end) y 0 i l
         (omega (arith, s .up .under)) (omega (arith, s .fr .ends)))
 
     pub part-more : (v′ o′ : List ℕ) (r : Tally) (q : ℕ) → q ≡ place (p .deep) (p .ey) x y → Put val ov v′ o′ q r → Totals sa off val ov x q r → Part p sa sc x from val₀ ov₀ v′ o′ (y + 1)
@@ -172,7 +172,7 @@ module _ {p : Plan} {sa sc off : List ℕ} {val₀ ov₀ : List ℕ} {x from to 
 
   pub slow-done : {val ov : List ℕ} {y : ℕ} → Part p sa sc x from val₀ ov₀ val ov y → y ≡ to → FlaggedFor p sa sc val ov (x + 1)
   slow-done {val} {ov} {y} pt e =
-      sheet-next (s .turn .ready .slopes) (s .turn .ready .offs) (s .turn .table .cells) (s .turn .start) (s .turn .end) from to (s .fr) (s .up) (s .turn .table .blank) (cellAt val ov)
+      sheet-next (s .turn .ready .slopes) (s .turn .ready .offs) (s .turn .table .cells) (s .turn .end) from to (s .fr) (s .up) (s .turn .table .blank) (cellAt val ov)
       (pt .before) (λ j l. pt .after j (omega arith)) (λ t h l. pt .here t h (omega arith))
 
 -- total
@@ -185,7 +185,7 @@ said sa off val ov x p g says i l es er = er ∙ ap (cellAt val ov) es ∙ says 
 
 module _ {p : Plan} {sa sc off : List ℕ} {val ov : List ℕ} {x : ℕ} (t : Flagging p sa sc off val ov x) {from to : ℕ} (fr : From (p .wall) (p .hi) (p .ex) (p .ey) x from) (up : To (p .wall) (p .hi) (p .ey) x to) where
   pub turn-none : to ≤ from → FlaggedFor p sa sc val ov (x + 1)
-  turn-none l = sheet-same (t .ready .slopes) (t .ready .offs) (t .table .cells) (t .start) (t .end) from to fr up (t .table .blank) l
+  turn-none l = sheet-same (t .ready .slopes) (t .ready .offs) (t .table .cells) (t .end) from to fr up (t .table .blank) l
 
 module _ {k : ℕ} {f : Wall} {sa sc : List ℕ} {hi m ex ey : ℕ} (val : List ℕ) {x : ℕ} (r : Table k f sa sc hi m ex ey val x) (fits : (j : ℕ) → getD val j 0 < 2 ^ 64) where
   unflagged : (j : ℕ) → cellAt val (replicate 3712 0) j ≡ capOf (getD val j 0)

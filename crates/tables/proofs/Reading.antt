@@ -3,9 +3,9 @@
 --   wordTo p e i                the first i letters of e as steps, the last one first
 --   word-all, word-cons, word-none    all of e, one letter, no letters
 --   back-is, back-left, back-under    what a step leads back to
---   end-in, end-out             the end behind the wall, and beyond it
+--   end-in                      the end behind the wall
 --   ok, ok-all                  whether the first i letters lead to (x, y); all of them
---   ok-out, ok-no-letter, ok-left, ok-under, ok-step    one letter read
+--   ok-no-letter, ok-left, ok-under, ok-step    one letter read
 --   ok-end                      no letters left
 use mathlib.Core.Path.{_≡_, refl, sym, ap, ap₂, _∙_}
 use mathlib.Core.Bool.{Bool, true, false, _&&_, and-false}
@@ -19,16 +19,14 @@ use lib.Dec.{T, ltb, eqb, lt→ltb}
 use lib.ListN.{length, getD}
 use borrow.Author.Tests.{le-leb, lt-leb, ne-eqb, eq-eqb}
 use Rattle.howmany.specs.Choose.{onlyIf}
-use Rattle.howmany.proofs.Choices.{is-true, is-false, only-true, only-none}
+use Rattle.howmany.proofs.Choices.{is-true, only-true}
 use Rattle.backward.specs.Reader.{valid}
 use Rattle.backward.specs.Grid.{grid}
-use Rattle.backward.proofs.Backward.{valid-stop, valid-no-letter, none-valid}
-use Rattle.backward.proofs.Grids.{grid-lawful}
+use Rattle.backward.proofs.Backward.{valid-stop, valid-no-letter}
 use Rattle.tables.specs.Form.{wall, stepsIn, spot}
 use Rattle.letters.specs.Letters.{placeOf}
 use Rattle.tables.specs.Edges.{walkEnd, isWalk}
 use Rattle.tables.proofs.Walls.{wall-start}
-use Rattle.tables.proofs.Laws.{onward}
 use Rattle.tables.specs.declared.Wall.{Wall}
 
 -- ---- words
@@ -72,9 +70,6 @@ module _ (k : ℕ) (f : Wall) (sa sc : List ℕ) (x y l : ℕ) where
 pub end-in : (k : ℕ) (f : Wall) (sa sc : List ℕ) (x y : ℕ) → T (wall f x y) → walkEnd k f sa sc x y ≡ some (spot x y)
 end-in k f sa sc x y h = only-true (wall f x y) (spot x y) h
 
-pub end-out : (k : ℕ) (f : Wall) (sa sc : List ℕ) (x y : ℕ) → (T (wall f x y) → ⊥) → walkEnd k f sa sc x y ≡ none
-end-out k f sa sc x y h = only-none (wall f x y) (spot x y) h
-
 -- ---- validity
 
 unfoldable pub ok : Bool → ℕ → Wall → List ℕ → List ℕ → List ℕ → ℕ → ℕ → ℕ → Bool
@@ -116,11 +111,6 @@ module _ (lettered : Bool) (k : ℕ) (f : Wall) (sa sc e : List ℕ) where
     ok-cons : ok lettered k f sa sc e i x y ≡ valid (grid (stepsIn k f sa sc)) (l ∷ wordTo (placeOf lettered) e (i - 1)) (walkEnd k f sa sc x y)
     unfolding ok
     ok-cons = ap (λ (w : List ℕ). valid (grid (stepsIn k f sa sc)) w (walkEnd k f sa sc x y)) (word-cons (placeOf lettered) e i l h q)
-
-    pub ok-out : (T (wall f x y) → ⊥) → ok lettered k f sa sc e i x y ≡ false
-    ok-out o =
-        ok-cons ∙ ap (valid (grid (stepsIn k f sa sc)) (l ∷ wordTo (placeOf lettered) e (i - 1))) (end-out k f sa sc x y o)
-        ∙ is-false (valid (grid (stepsIn k f sa sc)) (l ∷ wordTo (placeOf lettered) e (i - 1)) none) (none-valid (grid (stepsIn k f sa sc)) (grid-lawful (stepsIn k f sa sc) (onward k f sa sc pos)) (l ∷ wordTo (placeOf lettered) e (i - 1)))
 
     module _ (n : T (wall f x y)) where
       ok-some : ok lettered k f sa sc e i x y ≡ valid (grid (stepsIn k f sa sc)) (l ∷ wordTo (placeOf lettered) e (i - 1)) (some (spot x y))

@@ -5,15 +5,15 @@
 --   isWalk       whether the bytes e are an edge to (x, y)
 --   walkNumber     its number (001, algorithm 7)
 --   walkOf       the edge of the number r, as bytes (001, algorithm 8)
---   broughtAt    what step i brings to cell p of column x
+--   broughtAt    what step i brings to cell p: what stands as far back as off says, and the first zero where that is before the table
 --   Summed       what the first n steps bring to it can be read, and all of it fits
---   Reads        the same of all steps, where p is the cell of height y
+--   Reads        the same of all steps, where p is the cell of (x, y)
 --   Sought       step l is the last one of the number r, and rest the number of what stands before it
 use mathlib.Core.Path.{_≡_}
 use mathlib.Core.Bool.{Bool}
 use mathlib.Core.Option.{Option}
 use mathlib.Core.List.{List, map, reverse}
-use Prim.Native.Nat.{ℕ, _+_, _^_, _≤_, _<_}
+use Prim.Native.Nat.{ℕ, _+_, _-_, _^_, _≤_, _<_}
 use lib.ListN.{length, getD}
 use Rattle.howmany.specs.Sum.{sum, Falls}
 use Rattle.backward.specs.Reader.{valid, rank, unrank}
@@ -21,7 +21,6 @@ use Rattle.backward.specs.Walk.{enter}
 use Rattle.backward.specs.Grid.{Spot, grid, way}
 use Rattle.tables.specs.Form.{stepsIn, spot, via}
 use Rattle.letters.specs.Letters.{glyphOf, wordOf}
-use Rattle.tables.specs.Cells.{sourceOf}
 use Rattle.tables.specs.declared.Wall.{Wall}
 
 abbrev pub walkEnd : ℕ → Wall → List ℕ → List ℕ → ℕ → ℕ → Option Spot
@@ -36,20 +35,18 @@ walkNumber lettered k f sa sc x y e = rank (grid (stepsIn k f sa sc)) (wordOf le
 unfoldable pub walkOf : Bool → ℕ → Wall → List ℕ → List ℕ → ℕ → ℕ → ℕ → List ℕ
 walkOf lettered k f sa sc x y r = map (glyphOf lettered) (reverse (unrank (grid (stepsIn k f sa sc)) (walkEnd k f sa sc x y) r))
 
-abbrev pub broughtAt : List ℕ → List ℕ → List ℕ → ℕ → ℕ → ℕ → ℕ
-broughtAt sa off val x p i = getD val (sourceOf sa off x p i) 0
+abbrev pub broughtAt : List ℕ → List ℕ → ℕ → ℕ → ℕ
+broughtAt off val p i = getD val (p - getD off i 0) 0
 
-pub record Summed (n : ℕ) (sa off val : List ℕ) (x p : ℕ) : Type 0 where
+pub record Summed (n : ℕ) (off val : List ℕ) (p : ℕ) : Type 0 where
   pub most : n ≤ 8
-  pub back : (i : ℕ) → i < n → getD sa i 0 ≤ x → getD off i 0 ≤ p
-  pub in-val : (i : ℕ) → i < n → sourceOf sa off x p i < length val
-  pub fits : sum (broughtAt sa off val x p) n < 2 ^ 64
+  pub inside : p < length val
+  pub fits : sum (broughtAt off val p) n < 2 ^ 64
 
 pub record Reads (k : ℕ) (f : Wall) (sa sc off val : List ℕ) (x y p : ℕ) : Type 0 where
   pub most : k ≤ 8
-  pub back : (i : ℕ) → i < k → getD sa i 0 ≤ x → getD off i 0 ≤ p
-  pub in-val : (i : ℕ) → i < k → sourceOf sa off x p i < length val
-  pub says : (i : ℕ) → i < k → broughtAt sa off val x p i ≡ via k f sa sc x y i
+  pub inside : p < length val
+  pub says : (i : ℕ) → i < k → broughtAt off val p i ≡ via k f sa sc x y i
   pub fits : sum (via k f sa sc x y) k < 2 ^ 64
 
 pub record Sought (g : ℕ → ℕ) (k r l rest : ℕ) : Type 0 where

@@ -13,6 +13,8 @@
 --   AllRight      with flags beside them all cells that matter are right
 --   Filled     the answer for the end, and a table filled where it isn't Over
 --   Readable       a filled table, and the end's count fits
+--   Legible        the same of some steps, where only their offsets are at hand
+--   BySteps        P holds of all steps whose readable table this is
 use mathlib.Core.Path.{_≡_}
 use mathlib.Core.Bool.{Bool, true}
 use mathlib.Core.List.{List}
@@ -94,3 +96,11 @@ pub record Readable (p : Plan) (sa sc off val : List ℕ) : Type 0 where
   pub ready : PreparedFor p sa sc off (length val)
   pub solid : AllRight p sa sc val
   pub fits : walksFor p sa sc < 2 ^ 64
+
+pub record Legible (p : Plan) (off val : List ℕ) : Type 0 where
+  pub sa : List ℕ
+  pub sc : List ℕ
+  pub readable : Readable p sa sc off val
+
+abbrev pub BySteps : Plan → List ℕ → List ℕ → (List ℕ → List ℕ → Type 0) → Type 0
+BySteps p off val P = (sa sc : List ℕ) → Readable p sa sc off val → P sa sc

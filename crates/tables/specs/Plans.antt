@@ -1,6 +1,7 @@
 -- What is said of a table by the plan of its shape.
 --
 --   strideFor p, cellsFor p           how many cells a column has, and all of the table
+--   startFor p, endFor p              where the cells of the start and of the end stand
 --   Narrow p                          the plan has no more than the 32 columns of families 6 and 7
 --   SizesFor p                        bounds of the plan's numbers
 --   FormFor p sa sc                   the steps sa, sc with the plan's end are a form
@@ -30,7 +31,7 @@ use Rattle.tables.specs.declared.Tally as counts
 use Rattle.tables.specs.declared.Plan.{Plan}
 use Rattle.tables.specs.declared.Shape.{Shape}
 use Rattle.tables.specs.Form.{Form, walksTo}
-use Rattle.tables.specs.Cells.{capOf, strideOf}
+use Rattle.tables.specs.Cells.{capOf, strideOf, place}
 use Rattle.tables.specs.Table.{Steepest, Deepest, Few, Sizes, Prepared, Spans, Table, Flagged, Small}
 use Rattle.tables.specs.Edges.{isWalk, walkNumber, walkOf}
 use Rattle.tables.specs.Numbering.{tableRanks}
@@ -41,6 +42,12 @@ strideFor p = strideOf (p .deep) (p .ey)
 
 abbrev pub cellsFor : Plan → ℕ
 cellsFor p = (p .ex + 2) * strideFor p
+
+abbrev pub startFor : Plan → ℕ
+startFor p = place (p .deep) (p .ey) 0 0
+
+abbrev pub endFor : Plan → ℕ
+endFor p = place (p .deep) (p .ey) (p .ex) (p .ey)
 
 abbrev pub SizesFor : Plan → Type 0
 SizesFor p = Sizes (p .wall) (p .hi) (p .deep) (p .ex) (p .ey)

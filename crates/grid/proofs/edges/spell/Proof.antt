@@ -1,96 +1,55 @@
 -- `grid::edges::spell` meets its contract: at each step what is written so far and what is left make up the edge. Assumes nothing.
 use mathlib.Core.Path.{_≡_, refl}
 use mathlib.Core.Bool.{false}
+use native.Mathlib.Omega.{arith}
 use lib.ListN.{length, length-set}
-use Rattle.tables.proofs.Phases.{place-sum, end-placed}
-use Rattle.tables.proofs.Building.{Writing, writing-start, seek-needs, picked, write-from, writing-end}
+use Rattle.tables.proofs.Numbers.{Every, one, onto, end-is}
+use Rattle.tables.proofs.Building.{Written, writing-start, writing-done, writing-more, seek-needs, spell-room, picked, step-in, step-back, next-letter, writing-end}
 use Rattle.grid.proofs.edges.spell.Statement.{statement}
 use Rattle.grid.proofs.edges.spell.Tie as tie
 
 abbrev Inv-loop : tie.InvT-loop
-Inv-loop val sa sc off p r buf₀ x₀ y₀ at₀ left₀ s₀ buf x y at left s =
-    (length buf ≡ length buf₀) × Writing false p sa sc off val r buf₀ buf x y at left s
+Inv-loop val off p r buf₀ start at₀ left₀ s₀ buf at left s =
+    (length buf ≡ length buf₀) × Every p off val (λ sa sc. Written false p sa sc off val r buf at left s)
 
 abbrev μ-loop : tie.MeasureT-loop
-μ-loop val sa sc off p r buf₀ x₀ y₀ at₀ left₀ s₀ buf x y at left s = x
+μ-loop val off p r buf₀ start at₀ left₀ s₀ buf at left s = at
 
-add-at : tie.Need-add-at Inv-loop μ-loop
-add-at c =
-    record { fits = end-placed (c .before .before .before .pre .0 .ready .sizes) .next }
+start-of-requires : tie.Need-start-of-requires Inv-loop μ-loop
+start-of-requires c κs =
+    c .before .before .pre .0 .readable .ready .sizes
 
-add-at-2 : tie.Need-add-at-2 Inv-loop μ-loop
-add-at-2 c =
-    record { fits = end-placed (c .before .before .before .before .pre .0 .ready .sizes) .tall }
-
-add-at-3 : tie.Need-add-at-3 Inv-loop μ-loop
-add-at-3 c =
-    record { fits = end-placed (c .before .before .before .before .pre .0 .ready .sizes) .stride }
-
-mul-at : tie.Need-mul-at Inv-loop μ-loop
-mul-at c =
-    record { fits = end-placed (c .before .before .before .before .pre .0 .ready .sizes) .column }
-
-add-at-4 : tie.Need-add-at-4 Inv-loop μ-loop
-add-at-4 c =
-    record { fits = end-placed (c .before .before .before .before .before .pre .0 .ready .sizes) .base }
-
-add-at-5 : tie.Need-add-at-5 Inv-loop μ-loop
-add-at-5 c =
-    record { fits = end-placed (c .before .before .before .before .before .before .pre .0 .ready .sizes) .cell }
+end-of-requires : tie.Need-end-of-requires Inv-loop μ-loop
+end-of-requires c κs =
+    c .before .before .before .pre .0 .readable .ready .sizes
 
 loop-holds : tie.Need-loop-holds Inv-loop μ-loop
 loop-holds c =
-    (refl, writing-start (c .before .before .before .before .before .before .pre .0) (c .before .before .before .before .before .before .pre .1) (c .before .before .before .before .before .before .pre .2) _ (place-sum _ _ _ _))
+    (refl, record { some = c .before .before .before .before .pre .0; all = λ sa sc fu. record { x = _; writing = writing-start false fu (omega (arith, c .before .before .before .before .pre .1, end-is fu)) (c .before .before .before .before .pre .2) (c .end-of .ensures) } })
 
 seek-requires : tie.Need-seek-requires Inv-loop μ-loop
 seek-requires c κs =
-    seek-needs (c .before .loop .inv .1) (c .loop-test .taken)
+    let w = one (c .before .loop .inv .1) .writing in seek-needs w (writing-more w (c .before .before .before .start-of .ensures) (c .loop-test .taken))
 
 sub-s : tie.Need-sub-s Inv-loop μ-loop
 sub-s c =
-    picked (c .before .before .loop .inv .1) (c .before .loop-test .taken) (c .seek .ensures .0) .least
+    let w = one (c .before .before .loop .inv .1) .writing in spell-room w (writing-more w (c .before .before .before .before .start-of .ensures) (c .before .loop-test .taken)) .0
 
 glyph-of-requires : tie.Need-glyph-of-requires Inv-loop μ-loop
 glyph-of-requires c κs =
-    picked (c .before .before .loop .inv .1) (c .before .loop-test .taken) (c .seek .ensures .0) .below
+    let w = one (c .before .before .loop .inv .1) .writing in let px = writing-more w (c .before .before .before .before .start-of .ensures) (c .before .loop-test .taken) in step-in w px (picked w px (c .seek .ensures .0))
 
 slice-write-buf : tie.Need-slice-write-buf Inv-loop μ-loop
 slice-write-buf c =
-    picked (c .before .before .before .loop .inv .1) (c .before .before .loop-test .taken) (c .before .seek .ensures .0) .inside
-
-mul-x : tie.Need-mul-x Inv-loop μ-loop
-mul-x c =
-    record { fits = picked (c .before .before .before .loop .inv .1) (c .before .before .loop-test .taken) (c .before .seek .ensures .0) .byte }
-
-element-copy-out-x : tie.Need-element-copy-out-x Inv-loop μ-loop
-element-copy-out-x c =
-    picked (c .before .before .before .loop .inv .1) (c .before .before .loop-test .taken) (c .before .seek .ensures .0) .below
-
-sub-x : tie.Need-sub-x Inv-loop μ-loop
-sub-x c =
-    picked (c .before .before .before .before .loop .inv .1) (c .before .before .before .loop-test .taken) (c .before .before .seek .ensures .0) .right
-
-mul-y : tie.Need-mul-y Inv-loop μ-loop
-mul-y c =
-    record { fits = picked (c .before .before .before .before .loop .inv .1) (c .before .before .before .loop-test .taken) (c .before .before .seek .ensures .0) .byte }
-
-element-copy-out-y : tie.Need-element-copy-out-y Inv-loop μ-loop
-element-copy-out-y c =
-    picked (c .before .before .before .before .loop .inv .1) (c .before .before .before .loop-test .taken) (c .before .before .seek .ensures .0) .below
-
-sub-y : tie.Need-sub-y Inv-loop μ-loop
-sub-y c =
-    picked (c .before .before .before .before .before .loop .inv .1) (c .before .before .before .before .loop-test .taken) (c .before .before .before .seek .ensures .0) .up
+    let w = one (c .before .before .before .loop .inv .1) .writing in spell-room w (writing-more w (c .before .before .before .before .before .start-of .ensures) (c .before .before .loop-test .taken)) .1
 
 loop-less : tie.Need-loop-less Inv-loop μ-loop
 loop-less c =
-    picked (c .before .before .before .before .before .loop .inv .1) (c .before .before .before .before .loop-test .taken) (c .before .before .before .seek .ensures .0) .ahead
+    let w = one (c .before .before .before .loop .inv .1) .writing in let px = writing-more w (c .before .before .before .before .before .start-of .ensures) (c .before .before .loop-test .taken) in let b = step-back w px (picked w px (c .before .seek .ensures .0)) in omega (arith, c .before .seek .ensures .1)
 
 loop-again : tie.Need-loop-again Inv-loop μ-loop
 loop-again c =
-    let w = c .before .before .before .before .before .loop .inv in
-    let q = c .before .before .before .seek .ensures in
-    (simp length-set (w .0), write-from (picked (w .1) (c .before .before .before .before .loop-test .taken) (q .0)) (q .1) (c .before .before .glyph-of .ensures))
+    (simp length-set (c .before .before .before .loop .inv .0), onto (c .before .before .before .loop .inv .1) (λ sa sc fu w. let px = writing-more (w .writing) (c .before .before .before .before .before .start-of .ensures) (c .before .before .loop-test .taken) in record { x = _; writing = next-letter (w .writing) px (picked (w .writing) px (c .before .seek .ensures .0)) (c .before .seek .ensures .1) (c .glyph-of .ensures) }))
 
 same-length : tie.Need-same-length Inv-loop μ-loop
 same-length c =
@@ -98,7 +57,7 @@ same-length c =
 
 returns : tie.Need-returns Inv-loop μ-loop
 returns c =
-    writing-end (c .before .loop .inv .1) (c .loop-test .left)
+    (one (c .before .loop .inv .1) .writing .s-le, λ sa sc fu. let w = c .before .loop .inv .1 .all sa sc fu .writing in writing-end w (writing-done w (c .before .before .before .start-of .ensures) (c .loop-test .left)) .1)
 
 pub spell-spec : {M : Type 1} → statement M
 spell-spec =
@@ -106,23 +65,13 @@ spell-spec =
     (tie.spec
     Inv-loop
     μ-loop
-    add-at
-    add-at-2
-    add-at-3
-    mul-at
-    add-at-4
-    add-at-5
+    start-of-requires
+    end-of-requires
     loop-holds
     seek-requires
     sub-s
     glyph-of-requires
     slice-write-buf
-    mul-x
-    element-copy-out-x
-    sub-x
-    mul-y
-    element-copy-out-y
-    sub-y
     loop-less
     loop-again
     same-length

@@ -17,10 +17,10 @@ returns : tie.Need-returns
 returns c = ranks-over false (c .before .before .before .before .before .before .before .before .before .before .args .p) _ _ _ _ (filled-over (c .before .before .before .before .fill .ensures) (c .enum-told .given .1))
 
 number-each-requires : tie.Need-number-each-requires
-number-each-requires c κs = (filled-readable (c .before .before .before .before .before .before .fill .ensures) (c .before .before .enum-told2 .given .1) (c .before .before .before .before .before .before .before .before .before .before .before .before .pre .0) (search needs), c .before .before .before .before .before .before .before .before .before .before .before .before .pre .2)
+number-each-requires c κs = (record { sa = _; sc = _; readable = filled-readable (c .before .before .before .before .before .before .fill .ensures) (c .before .before .enum-told2 .given .1) (c .before .before .before .before .before .before .before .before .before .before .before .before .pre .0) (search needs) }, c .before .before .before .before .before .before .before .before .before .before .before .before .pre .2)
 
 returns-2 : tie.Need-returns-2
-returns-2 c = ranks-fit false (c .before .before .before .before .before .before .before .before .before .before .before .before .before .before .before .args .p) _ _ _ _ _ _ (filled-count (c .before .before .before .before .before .before .before .before .before .fill .ensures) (c .before .before .before .before .before .enum-told2 .given .1) .1) (c .before .before .number-each .ensures)
+returns-2 c = ranks-fit false (c .before .before .before .before .before .before .before .before .before .before .before .before .before .before .before .args .p) _ _ _ _ _ _ (filled-count (c .before .before .before .before .before .before .before .before .before .fill .ensures) (c .before .before .before .before .before .enum-told2 .given .1) .1) (c .before .before .number-each .ensures _ _ (filled-readable (c .before .before .before .before .before .before .before .before .before .fill .ensures) (c .before .before .before .before .before .enum-told2 .given .1) (c .before .before .before .before .before .before .before .before .before .before .before .before .before .before .before .pre .0) (search needs)))
 
 pub number-in-spec : {M : Type 1} → statement M
 number-in-spec =

@@ -30,7 +30,7 @@ same-length : tie.Need-same-length
 same-length c = search needs
 
 returns : tie.Need-returns
-returns c = front-of _ _ _ _ _ _ _ (c .before .before .before .before .before .before .before .spell .ensures .1) (c .before .before .before .before .before .before .before .spell .ensures .0) (search needs) refl (c .before .before .before .before .before .before .before .before .before .before .before .pre .2) (c .before .before .put .ensures)
+returns c = λ sa sc fu. front-of _ _ _ _ _ _ _ (c .before .before .before .before .before .before .before .spell .ensures .1 sa sc fu) (c .before .before .before .before .before .before .before .spell .ensures .0) (search needs) refl (c .before .before .before .before .before .before .before .before .before .before .before .pre .2) (c .before .before .put .ensures)
 
 pub spell-front-spec : {M : Type 1} → statement M
 spell-front-spec =

@@ -144,7 +144,7 @@ loop-less-3 c = omega (arith, turn (c .before .before .before .before .before .b
 
 loop-again-3 : tie.Need-loop-again-3 Inv-loop μ-loop
 loop-again-3 c =
-    across-led (turn (c .before .before .before .before .before .before .before .before)) (c .before .before .before .before .before .before .if2 .left) (c .before .before .before .before .before .if3 .left) (across (c .before .before .before)) (c .before .before .if5 .left)
+    across-led (turn (c .before .before .before .before .before .before .before .before)) (c .before .before .before .before .before .before .if2 .left) (c .before .before .before .before .before .if3 .left) (across (c .before .before .before))
 
 stride-of-requires : tie.Need-stride-of-requires Inv-loop μ-loop
 stride-of-requires c κs = c .before .loop .inv .full .ready .sizes

@@ -5,13 +5,14 @@ use Prim.Native.Nat.{_+_}
 use native.Mathlib.Omega.{arith}
 use lib.ListN.{length, length-set}
 use Rattle.rows.specs.declared.plain.Plain.{Plain}
-use Rattle.rows.proofs.PlainRows.{Given, Spelt, spelt-start, spelt-end, Spelling, spelling-back, spelling-near, spelling-room, north-added, east-added, across-added}
+use Rattle.tables.proofs.Building.{writing-end}
+use Rattle.rows.proofs.PlainRows.{Given, Spelt, spelt-start, Spelling, spelling-back, spelling-near, spelling-room, north-added, east-added, across-added}
 use Rattle.rows.proofs.spelling.spell.Statement.{statement}
 use Rattle.rows.proofs.spelling.spell.Tie as tie
 
 abbrev Inv-loop : tie.InvT-loop
 Inv-loop val r buf₀ north east x₀ at₀ left₀ s₀ buf x at left s =
-    (length buf ≡ length buf₀) × ((c : Plain) → Given c val r buf₀ north east x₀ at₀ → Spelt c val r buf₀ buf x at left s)
+    (length buf ≡ length buf₀) × ((c : Plain) → Given c val r buf₀ north east x₀ at₀ → Spelt c val r buf x at left s)
 
 abbrev μ-loop : tie.MeasureT-loop
 μ-loop val r buf₀ north east x₀ at₀ left₀ s₀ buf x at left s = x
@@ -32,13 +33,13 @@ given c =
 turn : (c : tie.In-loop Inv-loop μ-loop) (C : Plain) → Gives (c .before .before) C →
     let at = c .before .loop in
     let args = c .before .before .before .before .before .before .before .before .args in
-    Spelling C (args .val .now) (args .r) (args .buf .now) (at .buf) (at .x) (at .at) (at .left) (at .s) (c .before .before .before .before .before .north-of .result) (c .before .before .before .before .east-of .result)
+    Spelling C (args .val .now) (args .r) (at .buf) (at .x) (at .at) (at .left) (at .s) (c .before .before .before .before .before .north-of .result) (c .before .before .before .before .east-of .result)
 turn c C g = record { spelt = c .before .loop .inv .1 C g; more = c .loop-test .taken; north = g .north; east = g .east }
 
 own : (c : tie.In-loop Inv-loop μ-loop) →
     let at = c .before .loop in
     let args = c .before .before .before .before .before .before .before .before .args in
-    Spelling (args .c) (args .val .now) (args .r) (args .buf .now) (at .buf) (at .x) (at .at) (at .left) (at .s) (c .before .before .before .before .before .north-of .result) (c .before .before .before .before .east-of .result)
+    Spelling (args .c) (args .val .now) (args .r) (at .buf) (at .x) (at .at) (at .left) (at .s) (c .before .before .before .before .before .north-of .result) (c .before .before .before .before .east-of .result)
 own c = turn c _ (given (c .before .before))
 
 north-of-requires : tie.Need-north-of-requires Inv-loop μ-loop
@@ -129,7 +130,7 @@ same-length : tie.Need-same-length Inv-loop μ-loop
 same-length c = c .before .loop .inv .0
 
 returns : tie.Need-returns Inv-loop μ-loop
-returns c = spelt-end _ (c .before .loop .inv .1 _ (given (c .before .before))) (c .loop-test .left)
+returns c = writing-end (c .before .loop .inv .1 _ (given (c .before .before))) (c .loop-test .left)
 
 pub spell-spec : {M : Type 1} → statement M
 spell-spec =
