@@ -10,6 +10,8 @@ use crate::cone::spans;
 use crate::flags::cell;
 use crate::flags::put;
 use crate::flags::total;
+use crate::plan::end_of;
+use crate::plan::start_of;
 use tables::Plan;
 use tables::Tally;
 
@@ -118,7 +120,8 @@ fn fast(
     ensures { λ r. ⌜ FilledTo p (now (sa .entry)) (now (sc .entry)) (now (val .exit)) r ⌝ }
 {
     let ex = p.ex;
-    val[(p.deep + p.ey + 1) + p.deep] = 1;
+    let start = start_of(p);
+    val[start] = 1;
     let mut x = 1;
     while x <= ex {
         let small = step(val, sa, sc, off, starts, stops, p, x);
@@ -152,7 +155,7 @@ fn rest(
         turn(val, &mut ov, sa, sc, off, starts, stops, p, x);
         x += 1;
     }
-    cell(val, &ov, (ex + 1) * (p.deep + p.ey + 1) + p.deep + p.ey)
+    cell(val, &ov, end_of(p))
 }
 
 // All columns, by their bounds; the answer is the count at the end.
@@ -173,7 +176,7 @@ fn columns(
     if next <= p.ex {
         return rest(val, sa, sc, off, starts, stops, p, next);
     }
-    let end = (p.ex + 1) * (p.deep + p.ey + 1) + p.deep + p.ey;
+    let end = end_of(p);
     let v = val[end];
     Tally::Count(v)
 }

@@ -2,7 +2,7 @@
 --
 --   ready-len                              ready, for another table of that length
 --   place-sum                              a cell's place, summed from the left
---   Placed, placed, end-placed             the sums on the way to a cell's place fit, and the end's
+--   Placed, placed                         the sums on the way to a cell's place fit
 --   first-in, begin-table, begin-small, begin-ready    `fast`, before its loop
 --   slow-placed, none-yet, inside-at, put-in, parts-of, part-more, slow-done    `slow`
 --   said                                   `total`, at a step
@@ -29,7 +29,7 @@ use Rattle.tables.specs.declared.Plan.{Plan}
 use Rattle.tables.specs.Form.{walksTo, via}
 use Rattle.tables.specs.Cells.{capOf, cellAt, Put, strideOf, place, sourceOf}
 use Rattle.tables.specs.Table.{Sizes, Prepared, From, To, Table, Flagged}
-use Rattle.tables.specs.Plans.{strideFor, cellsFor, PreparedFor, TableFor, FlaggedFor, SmallFor, walksFor}
+use Rattle.tables.specs.Plans.{startFor, endFor, strideFor, cellsFor, PreparedFor, TableFor, FlaggedFor, SmallFor, walksFor}
 use Rattle.tables.specs.Filling.{Blank, FilledTo, Flagging, FlaggingSpan, Part, Parts, Says, Totals, Filled, Readable}
 use Rattle.tables.proofs.Walls.{wall-in}
 use Rattle.tables.proofs.Laws.{walks-start, mul-bound, cap-lt, cap-count, cap-over, count-over, cell-zero}
@@ -44,7 +44,7 @@ ready-len r e = ready-more r _ (omega arith)
 pub place-sum : (m ey x y : ℕ) → (x + 1) * (m + ey + 1) + m + y ≡ place m ey x y
 place-sum m ey x y = omega arith
 
--- the sums on the way to the place of height y of column x, and its byte
+-- the sums on the way to the place of height y of column x
 pub record Placed (m ey x y : ℕ) : Type 0 where
   pub next : x + 1 < 2 ^ 64
   pub above : y + 1 < 2 ^ 64
@@ -53,39 +53,35 @@ pub record Placed (m ey x y : ℕ) : Type 0 where
   pub column : (x + 1) * (m + ey + 1) < 2 ^ 64
   pub base : (x + 1) * (m + ey + 1) + m < 2 ^ 64
   pub cell : (x + 1) * (m + ey + 1) + m + y < 2 ^ 64
-  pub byte : ((x + 1) * (m + ey + 1) + m + y) * 8 < 2 ^ 64
 
 placed-from : (m ey x y : ℕ) → m ≤ 1000 → ey ≤ 1000 → x ≤ 97 → y ≤ 1000 → (x + 1) * (m + ey + 1) ≤ 98 * 2001 → Placed m ey x y
-placed-from m ey x y lm le lx ly h = record { next = omega arith; above = omega arith; tall = omega arith; stride = omega arith; column = omega arith; base = omega arith; cell = omega arith; byte = omega arith }
+placed-from m ey x y lm le lx ly h = record { next = omega arith; above = omega arith; tall = omega arith; stride = omega arith; column = omega arith; base = omega arith; cell = omega arith }
 
 placed : {f : Wall} {hi m ex ey : ℕ} → Sizes f hi m ex ey → (x y : ℕ) → x ≤ ex → y ≤ ey → Placed m ey x y
 placed {f} {hi} {m} {ex} {ey} s x y lx ly =
     placed-from m ey x y (s .m-le) (s .ey-le) (omega (arith, s .ex-le)) (omega (arith, s .ey-le))
     (mul-bound (x + 1) (m + ey + 1) 98 2001 (omega (arith, s .ex-le)) (omega (arith, s .m-le, s .ey-le)))
 
-pub end-placed : {f : Wall} {hi m ex ey : ℕ} → Sizes f hi m ex ey → Placed m ey ex ey
-end-placed {f} {hi} {m} {ex} {ey} s = placed s ex ey (omega arith) (omega arith)
-
 -- fast
 
-module _ {p : Plan} {sa sc off : List ℕ} {val : List ℕ} (b : Blank p sa sc off val) where
+module _ {p : Plan} {sa sc off : List ℕ} {val : List ℕ} (b : Blank p sa sc off val) {start : ℕ} (es : start ≡ startFor p) where
   two-rows : cellsFor p ≡ p .ex * strideFor p + 2 * strideFor p
   two-rows = add-mul (p .ex) 2 (strideFor p)
 
-  pub first-in : strideFor p + p .deep < length val
+  pub first-in : start < length val
   first-in = omega (arith, b .ready .room, two-rows)
 
-  begin-other : (j : ℕ) → (j ≡ strideFor p + p .deep → ⊥) → getD (set val (strideFor p + p .deep) 1) j 0 ≡ 0
-  begin-other j h = getD-set-other val (strideFor p + p .deep) j 1 0 h ∙ b .zero-at j
+  begin-other : (j : ℕ) → (j ≡ start → ⊥) → getD (set val start 1) j 0 ≡ 0
+  begin-other j h = getD-set-other val start j 1 0 h ∙ b .zero-at j
 
   start-off : (y : ℕ) → walksTo (p .k) (p .wall) sa sc 0 (suc y) ≡ 0
   start-off y = walks-start (p .k) (p .wall) sa sc (pos-of (b .ready .slopes)) (suc y) ∙ rw (ne-eqb (suc y) 0 (λ q. omega arith))
 
-  begin-at : (y : ℕ) → getD (set val (strideFor p + p .deep) 1) (place (p .deep) (p .ey) 0 y) 0 ≡ walksTo (p .k) (p .wall) sa sc 0 y
-  begin-at zero = let e : place (p .deep) (p .ey) 0 0 ≡ strideFor p + p .deep = omega arith in rw (e, getD-set-same val (strideFor p + p .deep) 1 0 first-in, walks-start (p .k) (p .wall) sa sc (pos-of (b .ready .slopes)) 0)
+  begin-at : (y : ℕ) → getD (set val start 1) (place (p .deep) (p .ey) 0 y) 0 ≡ walksTo (p .k) (p .wall) sa sc 0 y
+  begin-at zero = rw (sym es, getD-set-same val start 1 0 first-in, walks-start (p .k) (p .wall) sa sc (pos-of (b .ready .slopes)) 0)
   begin-at (suc y) = begin-other (place (p .deep) (p .ey) 0 (suc y)) (λ q. omega arith) ∙ sym (start-off y)
 
-  pub begin-table : TableFor p sa sc (set val (strideFor p + p .deep) 1) 1
+  pub begin-table : TableFor p sa sc (set val start 1) 1
   begin-table = record {
     cells = record {
       right = λ u y l en. at-zero u y (omega arith);
@@ -95,10 +91,10 @@ module _ {p : Plan} {sa sc off : List ℕ} {val : List ℕ} (b : Blank p sa sc o
     blank = λ j l. begin-other j (λ q. omega arith);
   }
     where
-      at-zero : (u y : ℕ) → u ≡ 0 → getD (set val (strideFor p + p .deep) 1) (place (p .deep) (p .ey) u y) 0 ≡ walksTo (p .k) (p .wall) sa sc u y
+      at-zero : (u y : ℕ) → u ≡ 0 → getD (set val start 1) (place (p .deep) (p .ey) u y) 0 ≡ walksTo (p .k) (p .wall) sa sc u y
       at-zero u y e = rw e (begin-at y)
 
-      not-margin : (u t : ℕ) → t < p .deep → u * strideFor p + t ≡ strideFor p + p .deep → ⊥
+      not-margin : (u t : ℕ) → t < p .deep → u * strideFor p + t ≡ start → ⊥
       not-margin u t l q = elim (decLe u 1) [ yes h ↦ omega (arith, grow (strideFor p) u 1 h) | no h ↦ omega (arith, grow (strideFor p) 2 u (omega arith)) ]
 
   pub begin-small : SmallFor p sa sc 1
@@ -111,8 +107,8 @@ module _ {p : Plan} {sa sc off : List ℕ} {val : List ℕ} (b : Blank p sa sc o
       at-zero : (u y : ℕ) → u ≡ 0 → walksTo (p .k) (p .wall) sa sc u y ≤ 2305843009213693951
       at-zero u y e = rw e (omega (arith, start-le y))
 
-  pub begin-ready : PreparedFor p sa sc off (length (set val (strideFor p + p .deep) 1))
-  begin-ready = ready-len (b .ready) (length-set val (strideFor p + p .deep) 1)
+  pub begin-ready : PreparedFor p sa sc off (length (set val start 1))
+  begin-ready = ready-len (b .ready) (length-set val start 1)
 
 -- slow
 
@@ -205,14 +201,14 @@ pub last-row : (ex s : ℕ) → (ex + 1) * s + s ≡ (ex + 2) * s
 last-row ex s = let e : ex + 1 + 1 ≡ ex + 2 = omega arith in sym (one-more s (ex + 1)) ∙ ap (λ (z : ℕ). z * s) e
 
 module _ {p : Plan} {sa sc : List ℕ} (val ov : List ℕ) {x : ℕ} (t : FlaggedFor p sa sc val ov x) (e : x ≡ p .ex + 1) where
-  pub flagged-filled : {r : Tally} {at : ℕ} → r ≡ cellAt val ov at → at ≡ place (p .deep) (p .ey) (p .ex) (p .ey) → Filled p sa sc val r
+  pub flagged-filled : {r : Tally} {at : ℕ} → r ≡ cellAt val ov at → at ≡ endFor p → Filled p sa sc val r
   flagged-filled er ep = record {
     answer = er ∙ ap (cellAt val ov) ep ∙ t .cells .right (p .ex) (p .ey) (omega arith) (omega arith, omega arith);
     solid = λ n. record { ov = ov; flags = rw e at (t .cells) };
   }
 
 module _ {p : Plan} {sa sc : List ℕ} {val : List ℕ} {x : ℕ} (g : FilledTo p sa sc val x) (e : x ≡ p .ex + 1) where
-  pub filled-to-end : ((j : ℕ) → getD val j 0 < 2 ^ 64) → {v at : ℕ} → v ≡ getD val at 0 → at ≡ place (p .deep) (p .ey) (p .ex) (p .ey) → Filled p sa sc val (Count v)
+  pub filled-to-end : ((j : ℕ) → getD val j 0 < 2 ^ 64) → {v at : ℕ} → v ≡ getD val at 0 → at ≡ endFor p → Filled p sa sc val (Count v)
   filled-to-end fits {v} {at} ev ep = record {
     answer = sym (cap-lt v (omega (arith, fits at))) ∙ ap capOf (ev ∙ ap (λ (j : ℕ). getD val j 0) ep ∙ g .table .cells .right (p .ex) (p .ey) (omega arith) (omega arith, omega arith));
     solid = λ n. record { ov = replicate 3712 0; flags = rw e at (resume val (g .table) fits .cells) };

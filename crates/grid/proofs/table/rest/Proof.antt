@@ -5,7 +5,7 @@ use native.Mathlib.Omega.{arith}
 use borrow.Author.Needs.{needs}
 use lib.ListN.{length}
 use Rattle.tables.specs.Plans.{PreparedFor, FlaggedFor}
-use Rattle.tables.proofs.Phases.{ready-len, end-placed, resume, flagged-filled, end-cells, end-room}
+use Rattle.tables.proofs.Phases.{ready-len, resume, flagged-filled, end-cells, end-room}
 use Rattle.grid.proofs.table.rest.Statement.{statement}
 use Rattle.grid.proofs.table.rest.Tie as tie
 
@@ -35,29 +35,18 @@ loop-less c = omega arith
 loop-again : tie.Need-loop-again Inv-loop μ-loop
 loop-again c = (omega arith, omega arith, omega arith, omega arith, ready-len (c .before .before .before .before .before .before .before .loop .inv .4) (omega arith), c .before .before .before .turn .ensures)
 
-add-cell : tie.Need-add-cell Inv-loop μ-loop
-add-cell c = record { fits = end-placed (c .before .before .before .loop .inv .4 .sizes) .next }
-
-add-cell-2 : tie.Need-add-cell-2 Inv-loop μ-loop
-add-cell-2 c = record { fits = end-placed (c .before .before .before .before .loop .inv .4 .sizes) .tall }
-
-add-cell-3 : tie.Need-add-cell-3 Inv-loop μ-loop
-add-cell-3 c = record { fits = end-placed (c .before .before .before .before .loop .inv .4 .sizes) .stride }
-
-mul-cell : tie.Need-mul-cell Inv-loop μ-loop
-mul-cell c = record { fits = end-placed (c .before .before .before .before .loop .inv .4 .sizes) .column }
-
-add-cell-4 : tie.Need-add-cell-4 Inv-loop μ-loop
-add-cell-4 c = record { fits = end-placed (c .before .before .before .before .before .loop .inv .4 .sizes) .base }
-
-add-cell-5 : tie.Need-add-cell-5 Inv-loop μ-loop
-add-cell-5 c = record { fits = end-placed (c .before .before .before .before .before .before .loop .inv .4 .sizes) .cell }
+end-of-requires : tie.Need-end-of-requires Inv-loop μ-loop
+end-of-requires c κs = c .before .before .before .loop .inv .4 .sizes
 
 cell-requires : tie.Need-cell-requires Inv-loop μ-loop
-cell-requires c κs = let q = end-cells (c .before .before .before .before .before .before .loop .inv .4) in let r = end-room (c .before .before .before .before .before .before .loop .inv .4) in (omega arith, omega arith)
+cell-requires c κs =
+    let q = end-cells (c .before .before .before .before .loop .inv .4) in
+    let r = end-room (c .before .before .before .before .loop .inv .4) in
+    let e = c .end-of .ensures in
+    (omega arith, omega arith)
 
 returns : tie.Need-returns Inv-loop μ-loop
-returns c = flagged-filled (c .before .before .before .before .before .before .before .loop .val) (c .before .before .before .before .before .before .before .loop .ov) (c .before .before .before .before .before .before .before .loop .inv .5) (omega arith) (c .cell .ensures) (omega arith)
+returns c = flagged-filled (c .before .before .before .before .before .loop .val) (c .before .before .before .before .before .loop .ov) (c .before .before .before .before .before .loop .inv .5) (omega arith) (c .cell .ensures) (c .before .end-of .ensures)
 
 pub rest-spec : {M : Type 1} → statement M
 rest-spec =
@@ -72,12 +61,7 @@ rest-spec =
     loop-less
     loop-again
     (found .1)
-    add-cell
-    add-cell-2
-    add-cell-3
-    mul-cell
-    add-cell-4
-    add-cell-5
+    end-of-requires
     cell-requires
     (found .2)
     returns)
