@@ -45,6 +45,10 @@ pub job-put-one : (edge : List ℕ) (out : List ℕ) (r s : Built) (out-after ou
     → (r ≡ s) × (out-after ≡ out-next)
 job-put-one edge out r s out-after out-next p q = built-one _ r s _ _ p q
 
+pub job-wide-one : (x : ℕ) (r s : ℕ) → job.WideMeets x r → job.WideMeets x s
+    → r ≡ s
+job-wide-one x r s p q = equal-one _ r s p q
+
 pub job-family-of-one : (block : List ℕ) (r s : ℕ) → job.FamilyOfMeets block r → job.FamilyOfMeets block s
     → r ≡ s
 job-family-of-one block r s p q = equal-one _ r s p q
