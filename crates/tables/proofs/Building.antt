@@ -3,7 +3,7 @@
 --   seek-here, seek-more, seek-end, seek-in, seek-start    the loop of `seek`
 --   unr, unr-start, unr-step     the steps of the edge of a number, the last one first
 --   write-turn, write-done       a byte written in front of the others, and all of them
---   Writing, Written, writing-start, writing-done, writing-more, left-of, seek-needs, picked, spell-room, step-from, step-in, step-back, next-letter, writing-end    the loop of `spell`
+--   Writing, SpeltSoFar, writing-start, writing-done, writing-more, left-of, seek-needs, picked, spell-room, step-from, step-in, step-back, next-letter, writing-end    the loop of `spell`
 use mathlib.Core.Path.{_≡_, refl, sym, ap, ap₂, _∙_}
 use mathlib.Core.Bool.{Bool}
 use mathlib.Core.Option.{Option, some}
@@ -127,7 +127,7 @@ pub record Writing (lettered : Bool) (p : plans.Plan) (sa sc off val : List ℕ)
   pub so-far : reverse (drop s buf) ++ map (glyphOf lettered) (unr (p .k) (p .wall) sa sc x y left) ≡ map (glyphOf lettered) (unr (p .k) (p .wall) sa sc (p .ex) (p .ey) r)
 
 -- the same, where the column isn't at hand either
-pub record Written (lettered : Bool) (p : plans.Plan) (sa sc off val : List ℕ) (r : ℕ) (buf : List ℕ) (cell left s : ℕ) : Type 0 where
+pub record SpeltSoFar (lettered : Bool) (p : plans.Plan) (sa sc off val : List ℕ) (r : ℕ) (buf : List ℕ) (cell left s : ℕ) : Type 0 where
   pub x : ℕ
   pub writing : Writing lettered p sa sc off val r buf x cell left s
 

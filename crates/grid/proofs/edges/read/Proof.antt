@@ -13,84 +13,64 @@ abbrev μ-loop : tie.MeasureT-loop
 μ-loop val off p e acc₀ at₀ i₀ acc at i = i
 
 end-of-requires : tie.Need-end-of-requires Inv-loop μ-loop
-end-of-requires c κs =
-    c .before .before .pre .readable .ready .sizes
+end-of-requires c κs = c .before .before .pre .readable .ready .sizes
 
 mul-if1 : tie.Need-mul-if1 Inv-loop μ-loop
-mul-if1 c =
-    let h = stand-in (c .before .before .before .pre .readable) (end-stand (c .before .before .before .pre .readable) (c .end-of .ensures)) in omega arith
+mul-if1 c = let h = stand-in (c .before .before .before .pre .readable) (end-stand (c .before .before .before .pre .readable) (c .end-of .ensures)) in omega arith
 
 shared-slice-read-if1 : tie.Need-shared-slice-read-if1 Inv-loop μ-loop
-shared-slice-read-if1 c =
-    stand-in (c .before .before .before .before .pre .readable) (end-stand (c .before .before .before .before .pre .readable) (c .before .end-of .ensures))
+shared-slice-read-if1 c = stand-in (c .before .before .before .before .pre .readable) (end-stand (c .before .before .before .before .pre .readable) (c .before .end-of .ensures))
 
 returns : tie.Need-returns Inv-loop μ-loop
-returns c =
-    λ sa sc fu. not-there false _ fu (c .before .before .end-of .ensures) (c .if1 .taken)
+returns c = λ sa sc fu. not-there false _ fu (c .before .before .end-of .ensures) (c .if1 .taken)
 
 loop-holds : tie.Need-loop-holds Inv-loop μ-loop
-loop-holds c =
-    record { some = c .before .before .before .before .before .pre; all = λ sa sc fu. walking-start false _ fu (c .before .before .end-of .ensures) (c .if1 .left) }
+loop-holds c = record { some = c .before .before .before .before .before .pre; all = λ sa sc fu. walking-start false _ fu (c .before .before .end-of .ensures) (c .if1 .left) }
 
 sub-i : tie.Need-sub-i Inv-loop μ-loop
-sub-i c =
-    c .loop-test .taken
+sub-i c = c .loop-test .taken
 
 shared-slice-read-place-of : tie.Need-shared-slice-read-place-of Inv-loop μ-loop
-shared-slice-read-place-of c =
-    omega (arith, one (c .before .before .loop .inv) .i-le)
+shared-slice-read-place-of c = omega (arith, one (c .before .before .loop .inv) .i-le)
 
 place-of-requires : tie.Need-place-of-requires Inv-loop μ-loop
-place-of-requires c κs =
-    tt
+place-of-requires c κs = tt
 
 returns-2 : tie.Need-returns-2 Inv-loop μ-loop
-returns-2 c =
-    λ sa sc fu. not-letter (c .before .before .before .before .before .loop .inv .all sa sc fu) (c .before .before .before .before .loop-test .taken) (c .before .before .place-of .ensures) (c .if2 .taken)
+returns-2 c = λ sa sc fu. not-letter (c .before .before .before .before .before .loop .inv .all sa sc fu) (c .before .before .before .before .loop-test .taken) (c .before .before .place-of .ensures) (c .if2 .taken)
 
 back-requires : tie.Need-back-requires Inv-loop μ-loop
-back-requires c κs =
-    omega (arith, one (c .before .before .before .before .before .loop .inv) .full .ready .slopes .most)
+back-requires c κs = omega (arith, one (c .before .before .before .before .before .loop .inv) .full .ready .slopes .most)
 
 mul-if3 : tie.Need-mul-if3 Inv-loop μ-loop
-mul-if3 c =
-    let h = walking-reads (one (c .before .before .before .before .before .before .loop .inv)) .inside in omega arith
+mul-if3 c = let h = walking-reads (one (c .before .before .before .before .before .before .loop .inv)) .inside in omega arith
 
 shared-slice-read-if3 : tie.Need-shared-slice-read-if3 Inv-loop μ-loop
-shared-slice-read-if3 c =
-    omega (arith, walking-reads (one (c .before .before .before .before .before .before .before .loop .inv)) .inside)
+shared-slice-read-if3 c = omega (arith, walking-reads (one (c .before .before .before .before .before .before .before .loop .inv)) .inside)
 
 returns-3 : tie.Need-returns-3 Inv-loop μ-loop
-returns-3 c =
-    λ sa sc fu. not-back (c .before .before .before .before .before .before .before .before .loop .inv .all sa sc fu) (c .before .before .before .before .before .before .before .loop-test .taken) (c .before .before .before .before .before .place-of .ensures) (c .before .before .before .if2 .left) (c .before .before .back .ensures) (c .if3 .taken)
+returns-3 c = λ sa sc fu. not-back (c .before .before .before .before .before .before .before .before .loop .inv .all sa sc fu) (c .before .before .before .before .before .before .before .loop-test .taken) (c .before .before .before .before .before .place-of .ensures) (c .before .before .before .if2 .left) (c .before .before .back .ensures) (c .if3 .taken)
 
 part-sum-requires : tie.Need-part-sum-requires Inv-loop μ-loop
-part-sum-requires c κs =
-    reads-summed (walking-reads (one (c .before .before .before .before .before .before .before .before .loop .inv))) _ (omega arith)
+part-sum-requires c κs = reads-summed (walking-reads (one (c .before .before .before .before .before .before .before .before .loop .inv))) _ (omega arith)
 
 add-acc : tie.Need-add-acc Inv-loop μ-loop
-add-acc c =
-    record { fits = walking-fits (one (c .before .before .before .before .before .before .before .before .before .loop .inv)) _ (omega arith) (c .part-sum .ensures) }
+add-acc c = record { fits = walking-fits (one (c .before .before .before .before .before .before .before .before .before .loop .inv)) _ (omega arith) (c .part-sum .ensures) }
 
 loop-less : tie.Need-loop-less Inv-loop μ-loop
-loop-less c =
-    omega arith
+loop-less c = omega arith
 
 loop-again : tie.Need-loop-again Inv-loop μ-loop
-loop-again c =
-    onto (c .before .before .before .before .before .before .before .before .before .loop .inv) (λ sa sc fu w. stepped w (c .before .before .before .before .before .before .before .before .loop-test .taken) (c .before .before .before .before .before .before .place-of .ensures) (c .before .before .before .before .if2 .left) (c .before .before .before .back .ensures) (c .before .if3 .left) (c .part-sum .ensures))
+loop-again c = onto (c .before .before .before .before .before .before .before .before .before .loop .inv) (λ sa sc fu w. stepped w (c .before .before .before .before .before .before .before .before .loop-test .taken) (c .before .before .before .before .before .before .place-of .ensures) (c .before .before .before .before .if2 .left) (c .before .before .before .back .ensures) (c .before .if3 .left) (c .part-sum .ensures))
 
 start-of-requires : tie.Need-start-of-requires Inv-loop μ-loop
-start-of-requires c κs =
-    c .before .before .before .before .before .before .before .pre .readable .ready .sizes
+start-of-requires c κs = c .before .before .before .before .before .before .before .pre .readable .ready .sizes
 
 returns-4 : tie.Need-returns-4 Inv-loop μ-loop
-returns-4 c =
-    λ sa sc fu. not-start (c .before .before .before .loop .inv .all sa sc fu) (c .before .before .loop-test .left) (c .before .start-of .ensures) (c .if4 .taken)
+returns-4 c = λ sa sc fu. not-start (c .before .before .before .loop .inv .all sa sc fu) (c .before .before .loop-test .left) (c .before .start-of .ensures) (c .if4 .taken)
 
 returns-5 : tie.Need-returns-5 Inv-loop μ-loop
-returns-5 c =
-    λ sa sc fu. walking-end (c .before .before .before .loop .inv .all sa sc fu) (c .before .before .loop-test .left) (c .before .start-of .ensures) (c .if4 .left)
+returns-5 c = λ sa sc fu. walking-end (c .before .before .before .loop .inv .all sa sc fu) (c .before .before .loop-test .left) (c .before .start-of .ensures) (c .if4 .left)
 
 pub read-spec : {M : Type 1} → statement M
 read-spec =
