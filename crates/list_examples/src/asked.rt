@@ -59,7 +59,7 @@ pub(crate) fn numbers(block: &[u8], bytes: &[u8], from: usize, ends: &[usize]) {
 
 fn laid(steps: &[u8], ends: &[usize]) {
     sizes(ends);
-    say::text(&steps[0..12]);
+    say::text(lines::part(steps, 0, 12));
 }
 
 fn from_arch(block: &[u8], numbers: &[u64]) {

@@ -32,11 +32,16 @@ fn family(f: u8) {
 
 fn families() {
     say::text(b"families: plain, square, paired, fenced\n");
-    let mut f: u8 = 0;
-    while f < 10 {
-        family(f);
-        f += 1;
-    }
+    family(0);
+    family(1);
+    family(2);
+    family(3);
+    family(4);
+    family(5);
+    family(6);
+    family(7);
+    family(8);
+    family(9);
     say::text(b"families of blocks of 0, 1 and 2 bytes: ");
     say::size(job::wide(job::family_of(b"")));
     say::size(job::wide(job::family_of(&[2])));
