@@ -29,7 +29,7 @@ use Rattle.job.proofs.Sorts.{AsSquare, square-of}
 use Rattle.job.proofs.Sorts.AsSquare.{as-square}
 use Rattle.job.proofs.Standing.{Kept}
 use Rattle.lines.specs.Known.{Refusing}
-use Rattle.arch.specs.Calls.{Within}
+use Rattle.arch.specs.Calls.{Limited}
 
 abbrev pub jobBy : ℕ → ℕ → rules.Job
 jobBy f n = pick (eqb f 2) (dyck n) (pick (eqb f 4) (schroder n) (motzkin n))
@@ -73,7 +73,7 @@ module _ (b : List ℕ) (room : Bool) (j : Job) (h : Held b room j) (family : �
   job-is : jobAnswer b ≡ accepted (family (j .n))
   job-is = h .kept .answer ∙ ap accepted (stands-by (h .kept .stands) (ap square (h .kept .family) ∙ h .own) ∙ same (j .n))
 
-  pub held-fits : j .n ≤ limit → Within b room family (j .n) limit
+  pub held-fits : j .n ≤ limit → Limited b room family (j .n) limit
   held-fits l = record { ends = record { own = h .own; roomy = h .roomy; answer = job-is }; small = l }
 
   pub held-over : limit < j .n → Refusing (square (familyOf b)) room b 4

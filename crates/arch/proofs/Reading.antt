@@ -28,7 +28,7 @@ use Rattle.arches.specs.Trees.Tree.{empty, dee, arch}
 use Rattle.arches.specs.Trees.Letter.{north, east, diag, other}
 use Rattle.arches.proofs.Limits.{count-mono}
 use Rattle.arches.proofs.Ranking.{number-below, number-arch}
-use Rattle.arches.proofs.Paths.{Walk, Next, Known, known, print-dee, print-arch, print-walk, walk-through, walk-tree, treeOf-print}
+use Rattle.arches.proofs.Paths.{Walk, Next, ByteOf, known, print-dee, print-arch, print-walk, walk-through, walk-tree, treeOf-print}
 use Rattle.arch.specs.Table.{Table}
 use Rattle.arch.specs.Sums.{offset}
 use Rattle.arch.specs.Answers.{IsEdge}
@@ -70,7 +70,7 @@ unfolding Walk
 closes v [] x y n l st w = absurd (omega arith)
 closes v (b ∷ s) x y n l st w = go (letterOf b) (known b) st w
   where
-    go : (k : Letter) → Known b k → Ends k → Next true v (λ x′ y′. Walk true v x′ y′ s n) k x y → (0 < suc (length s)) × (b ≡ 78)
+    go : (k : Letter) → ByteOf b k → Ends k → Next true v (λ x′ y′. Walk true v x′ y′ s n) k x y → (0 < suc (length s)) × (b ≡ 78)
     go north e t z = (omega arith, e)
     go east e t z = absurd t
     go diag e t z = absurd t
@@ -172,7 +172,7 @@ module _ {v room : ℕ} {s : List ℕ} {from next sz r : ℕ} (w : Begun v room 
   pub ends-here : next < length s → getD s next 0 ≢ 69 → getD s next 0 ≢ 68 → PathRead v room s from next sz r
   ends-here h q p = record { begun = w; stops = rw (byte-at s next (getD s next 0) h refl) (go (letterOf (getD s next 0)) (known (getD s next 0))) }
     where
-      go : (k : Letter) → Known (getD s next 0) k → Ends k
+      go : (k : Letter) → ByteOf (getD s next 0) k → Ends k
       go north e = tt
       go east e = absurd (q e)
       go diag e = absurd (p e)

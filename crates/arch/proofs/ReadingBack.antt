@@ -25,7 +25,7 @@ use Rattle.arches.specs.Trees.Tree.{empty, dee, arch}
 use Rattle.arches.specs.Trees.Letter.{north, east, diag, other}
 use Rattle.arches.proofs.Limits.{count-mono}
 use Rattle.arches.proofs.Ranking.{number-below, number-arch}
-use Rattle.arches.proofs.Paths.{Walk, Next, Known, known, print-arch}
+use Rattle.arches.proofs.Paths.{Walk, Next, ByteOf, known, print-arch}
 use Rattle.arch.specs.Table.{Table}
 use Rattle.arch.specs.Sums.{offset}
 use Rattle.arch.specs.Answers.{IsEdge}
@@ -143,7 +143,7 @@ module _ (s : List ℕ) (k X Y : ℕ) (pos : 0 < k) (h : k ≤ length s) (n : ge
   unfolding Go
   at-east = step (letterOf (getD s (k - 1) 0)) (known (getD s (k - 1) 0)) (before-east .second)
     where
-      step : (l : Letter) → Known (getD s (k - 1) 0) l → Next false 0 (λ x′ y′. Go x′ y′ [] X Y) l (before-east .a) (before-east .b)
+      step : (l : Letter) → ByteOf (getD s (k - 1) 0) l → Next false 0 (λ x′ y′. Go x′ y′ [] X Y) l (before-east .a) (before-east .b)
           → (getD s (k - 1) 0 ≡ 69) × (before-east .a + 1 ≡ X) × (before-east .b ≡ Y)
       step north g z = absurd (n g)
       step east g z = (g, z .1 .0, z .1 .1)

@@ -4,7 +4,7 @@ ghost use mathlib.Core.Path.{_≡_};
 ghost use mathlib.Core.Bool.{true};
 ghost use Rattle.howmany.specs.Choose.{pick};
 ghost use Rattle.rules.specs.Blocks.{paired, fenced};
-ghost use Rattle.tables.specs.Form.{fence};
+ghost use Rattle.tables.specs.Form.{fenceOf};
 ghost use Rattle.tables.specs.Shapes.{Laid, Ranged, Fenced, ShapedFor, Gentle, Lowered, View, Chosen};
 use crate::heights::height;
 use crate::heights::heights;
@@ -127,7 +127,7 @@ fn directed_shape(job: Job, f: Wall) -> Shape
 
 // Family 7 stays at y ≥ 0, which is the slope 3 in the job's own heights; family 6 has no fence.
 fn fence_of(family: u8) -> Wall
-    ensures { λ r. ⌜ r ≡ fence (pick (fenced family) 3 0) 0 ⌝ }
+    ensures { λ r. ⌜ r ≡ fenceOf (pick (fenced family) 3 0) 0 ⌝ }
 {
     let slope = if job::is_fenced(family) { 3 } else { 0 };
     Wall {

@@ -64,12 +64,12 @@ pairs-long (a ∷ b ∷ l) (suc k) h = omega (arith, pairs-long l k (omega arith
 module _ (b : List ℕ) (k : ℕ) (p : Pairs b k) where
   pub used-length : length (used b) ≡ k
   unfolding used
-  used-length = omega (arith, p .many, length-take (getD b 3 0) (pairsIn (drop 4 b)), pairs-long (drop 4 b) k (omega (arith, length-drop 4 b, p .twenty, p .few)))
+  used-length = omega (arith, p .many, length-take (getD b 3 0) (pairsIn (drop 4 b)), pairs-long (drop 4 b) k (omega (arith, length-drop 4 b, p .whole, p .few)))
 
   pub used-next : (i : ℕ) → i < k → drop i (used b) ≡ pairOf b i ∷ drop (i + 1) (used b)
   unfolding used
   used-next i l =
-      let n : 2 * i + 1 < length (drop 4 b) = omega (arith, length-drop 4 b, p .twenty, p .few) in
+      let n : 2 * i + 1 < length (drop 4 b) = omega (arith, length-drop 4 b, p .whole, p .few) in
       let x : getD (drop 4 b) (2 * i) 0 ≡ getD b (4 + 2 * i) 0 = getD-drop 4 b (2 * i) 0 in
       let g : 4 + (2 * i + 1) ≡ 5 + 2 * i = omega arith in
       let y : getD (drop 4 b) (2 * i + 1) 0 ≡ getD b (5 + 2 * i) 0 = getD-drop 4 b (2 * i + 1) 0 ∙ ap (λ (j : ℕ). getD b j 0) g in

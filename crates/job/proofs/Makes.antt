@@ -51,7 +51,7 @@ few-pairs b e l =
     leb→le (kOf b) 8 (and-left (leb (kOf b) 8) (small (used b)) (and-right (leb 1 (kOf b)) k a))
 
 pub pairs-of : (b : List ℕ) (k : ℕ) → k ≡ getD b 3 0 → formed b ≡ true → sized b ≡ true → Pairs b k
-pairs-of b k q e f = record { twenty = whole-of b e; many = sym q; few = go (paired (familyOf b)) refl }
+pairs-of b k q e f = record { whole = whole-of b e; many = sym q; few = go (paired (familyOf b)) refl }
   where
     go : (t : Bool) → paired (familyOf b) ≡ t → k ≤ 8
     go true l = omega (arith, few-pairs b f l)

@@ -3,7 +3,7 @@
 --   raised x       a byte raised by 128: the signed number that it stands for, and 128
 --   pairOf b i     pair i of a block
 --   inRange a b    refusal 2's test of a pair, with b raised
---   Twenty b       b has the length of a block; Pairs b k: and k used pairs
+--   Whole b       b has the length of a block; Pairs b k: and k used pairs
 --   heldBy b       the job that is held of a block: its bytes, m and each b raised
 --   none           the job beside a refusal
 --   refusedBy, acceptedBy    the answer of a refusal, and of a block that has none
@@ -29,12 +29,12 @@ raised x = (x + 128) % 256
 abbrev pub pairOf : List ℕ → ℕ → Pair
 pairOf b i = record { a = getD b (4 + 2 * i) 0; b = signed (getD b (5 + 2 * i) 0) }
 
-abbrev pub Twenty : List ℕ → Type 0
-Twenty b = length b ≡ blockLength
+abbrev pub Whole : List ℕ → Type 0
+Whole b = length b ≡ blockLength
 
 -- b has the length of a block, and k of its pairs are used
 pub record Pairs (b : List ℕ) (k : ℕ) : Type 0 where
-  pub twenty : length b ≡ blockLength
+  pub whole : length b ≡ blockLength
   pub many : getD b 3 0 ≡ k
   pub few : k ≤ 8
 

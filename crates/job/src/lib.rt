@@ -3,7 +3,7 @@ ghost use mathlib.Core.Path.{_≡_};
 ghost use Prim.Native.Nat.{_+_, _<_};
 ghost use lib.ListN.{drop};
 ghost use Rattle.rules.specs.Blocks.{zeros, formed, sized, sizedLettered, sizedDirected, small, used, isIn, twins};
-ghost use Rattle.job.specs.Made.{raised, pairOf, inRange, Twenty, Pairs, heldBy, refusedBy, acceptedBy};
+ghost use Rattle.job.specs.Made.{raised, pairOf, inRange, Whole, Pairs, heldBy, refusedBy, acceptedBy};
 ghost use Rattle.job.specs.Meets.{PutMeets, WideMeets, FamilyOfMeets, IsPlainMeets, IsSquareMeets, IsFencedMeets, IsPairedMeets, JobOfMeets};
 use std::num::wrapping_add_u8;
 
@@ -211,7 +211,7 @@ fn in_range(a: u8, b: u8) -> bool
 
 // Families 1 to 5: n and m are 0 to 64, and m = n in 2, 4 and 5.
 fn is_sized_lettered(block: &[u8]) -> bool
-    requires { ⌜ Twenty (now block) ⌝ }
+    requires { ⌜ Whole (now block) ⌝ }
     ensures { λ r. ⌜ r ≡ sizedLettered (now (block .entry)) ⌝ }
 {
     let n = block[1];
@@ -233,7 +233,7 @@ fn is_sized_lettered(block: &[u8]) -> bool
 
 // Families 6 and 7: n 0 to 32, m -96 to 96, k 1 to 8, the used pairs small.
 fn is_sized_directed(block: &[u8]) -> bool
-    requires { ⌜ Twenty (now block) ⌝ }
+    requires { ⌜ Whole (now block) ⌝ }
     ensures { λ r. ⌜ r ≡ sizedDirected (now (block .entry)) ⌝ }
 {
     if Job::COLUMNS < block[1] {
@@ -258,7 +258,7 @@ fn is_sized_directed(block: &[u8]) -> bool
 
 // Refusal 2 isn't given: every value in its family's range, and m = n where that is asked.
 fn is_sized(block: &[u8]) -> bool
-    requires { ⌜ Twenty (now block) ⌝ }
+    requires { ⌜ Whole (now block) ⌝ }
     ensures { λ r. ⌜ r ≡ sized (now (block .entry)) ⌝ }
 {
     if is_paired(block[0]) {
@@ -346,7 +346,7 @@ impl Job {
     }
 
     fn accepted(block: &[u8]) -> Made
-        requires { ⌜ Twenty (now block) ⌝ }
+        requires { ⌜ Whole (now block) ⌝ }
         ensures { λ r. ⌜ r ≡ acceptedBy (now (block .entry)) ⌝ }
     {
         Made {
@@ -356,7 +356,7 @@ impl Job {
     }
 
     fn held(block: &[u8]) -> Job
-        requires { ⌜ Twenty (now block) ⌝ }
+        requires { ⌜ Whole (now block) ⌝ }
         ensures { λ r. ⌜ r ≡ heldBy (now (block .entry)) ⌝ }
     {
         let a = [

@@ -33,7 +33,7 @@ use Rattle.job.proofs.Says.{value-not, value-one}
 use Rattle.pack.specs.Layout.{Laid, edgesIn, EdgesAs}
 use Rattle.job.specs.Parts.{refusalIn}
 use Rattle.pack.proofs.Layouts.{laid-of}
-use Rattle.calls.proofs.Fitting.{Known}
+use Rattle.calls.proofs.Fitting.{Accepted}
 use Rattle.pack.proofs.Knowing.{code-refusal, refused-then, some-number}
 
 module _ (p : List ℕ) where
@@ -65,7 +65,7 @@ module _ (p : List ℕ) where
       go (accepted J) q = absurd (value-not (sym (f ∙ ap reply (count-known (blockIn p) J q))))
       go (refused x) q = code-refusal (countAnswer (blockIn p)) r f ∙ ap refusalIn (count-told (blockIn p) x q) ∙ sym (ap refusalIn (read-known e (refused x) q))
 
-  pub read-edges : laid p ≡ true → Known (blockIn p) → (r : ℕ) → EdgesAs (blockIn p) (edgesIn p) r → r ≡ refusalIn (readAnswer p)
+  pub read-edges : laid p ≡ true → Accepted (blockIn p) → (r : ℕ) → EdgesAs (blockIn p) (edgesIn p) r → r ≡ refusalIn (readAnswer p)
   unfolding refusalNumber
   read-edges e k r f = f (k .job) (k .made) ∙ go (allValid (k .job) (edgesIn p)) refl
     where

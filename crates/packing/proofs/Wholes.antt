@@ -139,7 +139,7 @@ module _ (b ns steps ends : List ℕ) (room : Room (length ns) (length steps) (l
       go (refused y) e v = absurd (value-not (v .says))
       go (accepted es) e v =
           let long : n ≡ length (joined es) = value-one (v .says) in
-          let (c, twenty) = edges-many b ns es e in
+          let (c, whole) = edges-many b ns es e in
           let l : length (endsFrom 0 es) ≡ length ns = length-ends 0 es ∙ c in
           let fits : n ≤ length s = omega (arith, ap length (v .bytes), length-append (joined es) (drop (length (joined es)) steps)) in
           let S : take n s ≡ joined es = ap (take n) (v .bytes) ∙ take-at (joined es) (drop (length (joined es)) steps) n (sym long) in
@@ -153,7 +153,7 @@ module _ (b ns steps ends : List ℕ) (room : Room (length ns) (length steps) (l
             many = omega (arith, ap length (v .places), length-append (endsFrom 0 es) (drop (length es) ends));
             ends = E;
             packed = record {
-              twenty = twenty;
+              whole = whole;
               few = omega arith;
               short = omega (arith, ap length S);
               within = λ i h. omega (arith, ap (λ (l : List ℕ). getD l i 0) E, ends-within 0 es i (omega arith));

@@ -37,14 +37,14 @@ unfolding offsetsOf
 packFrom block ends steps = frontOf block (length ends) ++ (offsetsOf (shortest + 2 * length ends) ends ++ steps)
 
 pub record Packed (block ends steps : List ℕ) : Type 0 where
-  pub twenty : length block ≡ blockLength
+  pub whole : length block ≡ blockLength
   pub few : length ends ≤ 200
   pub short : length steps ≤ 25600
   pub within : (i : ℕ) → i < length ends → getD ends i 0 ≤ 25600
 
 pub record Headed (out block : List ℕ) (c : ℕ) : Type 0 where
   pub room : shortest ≤ length out
-  pub twenty : length block ≡ blockLength
+  pub whole : length block ≡ blockLength
   pub few : c ≤ 200
 
 pub record Places (out : List ℕ) (first : ℕ) (ends : List ℕ) : Type 0 where

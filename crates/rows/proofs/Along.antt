@@ -31,7 +31,7 @@ use Rattle.tables.specs.declared.Plan as plans
 use Rattle.tables.specs.Table.{Slopes, Ends, Table}
 use Rattle.tables.specs.Plans.{strideFor, PreparedFor, walksFor}
 use Rattle.tables.specs.Filling.{Filled}
-use Rattle.rows.specs.Rows.{Rises, Plain, PlainStepsFor, Done, Rows, RowsFor, Rowing, Risen}
+use Rattle.rows.specs.Rows.{Rises, PlainMoves, PlainStepsFor, Done, Rows, RowsFor, Rowing, Risen}
 use Rattle.tables.specs.declared.Wall.{Wall}
 use Rattle.tables.proofs.Walls.{wall-none}
 use Rattle.tables.proofs.Laws.{via-left, via-under, via-in, walks-start, walks-step, cap-ge}
@@ -72,7 +72,7 @@ module _ (k : ℕ) (f : Wall) (sa sc : List ℕ) where
       let g : suc y - getD sc i 0 ≡ y = omega arith in
       via-in k f sa sc (suc (suc u)) (suc y) i (omega arith) (omega arith) ∙ ap₂ (walksTo k f sa sc) e g
 
-  module _ {hi m ex : ℕ} (pl : Slopes k sa sc hi m ex) (slope : hi ≡ 6) (three : Bool) (co : Plain three k f sa sc) where
+  module _ {hi m ex : ℕ} (pl : Slopes k sa sc hi m ex) (slope : hi ≡ 6) (three : Bool) (co : PlainMoves three k f sa sc) where
     two-steps : (u y : ℕ) → via k f sa sc (suc u) y 0 + via k f sa sc (suc u) y 1 ≡ walksTo k f sa sc u y + low u y
     two-steps u y = go (co .rise)
       where
@@ -210,7 +210,7 @@ module _ {k : ℕ} {f : Wall} {sa sc : List ℕ} {m ey n : ℕ} {val : List ℕ}
       on u v (inr d) = inl (omega (arith, d .0))
 
 -- all the rows: the whole table is right
-module _ {k : ℕ} {f : Wall} {sa sc : List ℕ} {hi m ex ey : ℕ} {val : List ℕ} (pl : Slopes k sa sc hi m ex) (slope : hi ≡ 6) (three : Bool) (co : Plain three k f sa sc) (wide : ey ≤ ex) (rs : Rows k f sa sc m ey (ex - ey) val (ey + 1) 0) where
+module _ {k : ℕ} {f : Wall} {sa sc : List ℕ} {hi m ex ey : ℕ} {val : List ℕ} (pl : Slopes k sa sc hi m ex) (slope : hi ≡ 6) (three : Bool) (co : PlainMoves three k f sa sc) (wide : ey ≤ ex) (rs : Rows k f sa sc m ey (ex - ey) val (ey + 1) 0) where
   done-le : (u v : ℕ) → Done (ey + 1) 0 u v → v ≤ u → v ≤ ey
   done-le u v (inl l) a = omega arith
   done-le u v (inr d) a = absurd (omega (arith, d .0, d .1))
@@ -258,7 +258,7 @@ module _ {k : ℕ} {f : Wall} {sa sc : List ℕ} {m ey n : ℕ} {val : List ℕ}
       go (suc x) (suc z) ex ez = let g : p - strideOf m ey - 1 ≡ place m ey x z = omega (arith, one-more (strideOf m ey) (y + i), same-rows (strideOf m ey) (y + i) (x + 1) (omega arith)) in rw g (rs .right x z (inl (omega arith)) (omega arith) (omega arith))
 
 -- the first cell of a row is the one before it on the diagonal
-module _ {k : ℕ} {f : Wall} {sa sc : List ℕ} {hi m ex ey : ℕ} {val : List ℕ} (pl : Slopes k sa sc hi m ex) (slope : hi ≡ 6) (three : Bool) (co : Plain three k f sa sc) {n y : ℕ} (rs : Rows k f sa sc m ey n val y 0) (in-row : y ≤ ey) (wide : ey ≤ ex) where
+module _ {k : ℕ} {f : Wall} {sa sc : List ℕ} {hi m ex ey : ℕ} {val : List ℕ} (pl : Slopes k sa sc hi m ex) (slope : hi ≡ 6) (three : Bool) (co : PlainMoves three k f sa sc) {n y : ℕ} (rs : Rows k f sa sc m ey n val y 0) (in-row : y ≤ ey) (wide : ey ≤ ex) where
   pub first-is : (p : ℕ) → p ≡ place m ey y y → (y ≡ 0 → ⊥) → getD val (p - strideOf m ey - 1) 0 ≡ walksTo k f sa sc (y + 0) y
   first-is p ep h = go y refl
     where

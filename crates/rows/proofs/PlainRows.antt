@@ -6,7 +6,7 @@
 --   PlainAlong                      the loop along a row, by the plan of families 1 and 3
 --   Begins, row-begins, row-start   its first cell
 --   Filling, filling-in, filling-far, filling-next, row-over, row-next    a cell more
---   Here, Led, led-start, led-out, led-end    the loop of `read`
+--   Here, LedBack, led-start, led-out, led-end    the loop of `read`
 --   Reading, reading-in, reading-back, reading-near, north-led, east-led, across-led, east-fits, across-fits    a step read
 --   no-step, across-left            where `read` finds no step of the job
 --   Given, Spelt, spelt-start    the loop of `spell`
@@ -25,13 +25,13 @@ use Rattle.howmany.specs.Sum.{sum}
 use Rattle.howmany.proofs.Sums.{sum-mono}
 use Rattle.howmany.proofs.Choices.{is-true, holds, and-left, and-right}
 use Rattle.lines.specs.declared.Rank.the-variants.{At, NoEdge}
-use Rattle.letters.specs.Letters.{placeOf, glyphOf}
+use Rattle.letters.specs.Letters.{letterOf, glyphOf}
 use Rattle.letters.proofs.Glyphs.{place-n, place-e, place-d, place-no, glyph-n, glyph-e, glyph-d}
 use Rattle.rows.specs.declared.plain.Plain.{Plain}
 use Rattle.tables.specs.Form.{wall, via}
 use Rattle.tables.specs.Cells.{capOf, place}
 use Rattle.tables.specs.Edges.{broughtAt, Sought}
-use Rattle.rows.specs.Plains.{plainPlan, plainRight, plainUp, plainBack, plainEnd, plainWalks, PlainRank, rises, isAcross, PlainSizes, PlainReadable, Within}
+use Rattle.rows.specs.Plains.{plainPlan, plainRight, plainUp, plainBack, plainEnd, plainWalks, PlainRank, rises, isAcross, PlainSizes, PlainReadable, PlainRange}
 use Rattle.tables.specs.Plans.{strideFor, cellsFor}
 use Rattle.rows.specs.Rows.{Rowing}
 use Rattle.tables.proofs.Walls.{wall-none}
@@ -74,7 +74,7 @@ module _ (c : Plain) where
       room : (c .n + c .m + 1) * strideFor (plainPlan c) + strideFor (plainPlan c) ≤ 3712
       room = rw (last-row (c .n + c .m) (strideFor (plainPlan c))) (z .cells)
 
-  pub cells-at : Within c → {y : ℕ} → y ≡ plainPlan c .ey → (y ≤ 64) × ((c .n + c .m + 2) * (y + 2) < 2 ^ 64) × ((c .n + c .m + 2) * (y + 2) ≡ cellsFor (plainPlan c))
+  pub cells-at : PlainRange c → {y : ℕ} → y ≡ plainPlan c .ey → (y ≤ 64) × ((c .n + c .m + 2) * (y + 2) < 2 ^ 64) × ((c .n + c .m + 2) * (y + 2) ≡ cellsFor (plainPlan c))
   cells-at w {y} e =
       let h : y ≤ 64 = omega (arith, e, either (ltb (c .n) (c .m))) in
       (h, omega (arith, mul-bound (c .n + c .m + 2) (y + 2) 130 66 (omega (arith, w .n-most, w .m-most)) (omega arith)), ap (λ (z : ℕ). (c .n + c .m + 2) * z) (omega (arith, e)))
@@ -201,7 +201,7 @@ abbrev pub Here : Plain → List ℕ → List ℕ → ℕ → ℕ → ℕ → Ty
 Here c val e acc cell i = Walking true (plainPlan c) (plainRight c) (plainUp c) (plainBack c) val e acc cell i
 
 -- the same, or they lead to a cell that no walk leads to
-pub record Led (c : Plain) (val e : List ℕ) (acc cell i : ℕ) : Type 0 where
+pub record LedBack (c : Plain) (val e : List ℕ) (acc cell i : ℕ) : Type 0 where
   pub full : PlainReadable c val
   pub i-le : i ≤ length e
   pub inside : cell < length val
@@ -209,10 +209,10 @@ pub record Led (c : Plain) (val e : List ℕ) (acc cell i : ℕ) : Type 0 where
   pub some : (getD val cell 0 ≡ 0 → ⊥) → Here c val e acc cell i
 
 module _ (c : Plain) {val e : List ℕ} where
-  pub led-start : PlainReadable c val → {cell : ℕ} → cell ≡ plainEnd c → Led c val e 0 cell (length e)
+  pub led-start : PlainReadable c val → {cell : ℕ} → cell ≡ plainEnd c → LedBack c val e 0 cell (length e)
   led-start fu ep = record { full = fu; i-le = omega arith; inside = stand-in fu (end-stand fu ep); none = not-there true e fu ep; some = walking-start true e fu ep }
 
-  module _ {acc cell i : ℕ} (w : Led c val e acc cell i) (h : i ≤ 0) where
+  module _ {acc cell i : ℕ} (w : LedBack c val e acc cell i) (h : i ≤ 0) where
     pub led-out : (cell ≡ strideFor (plainPlan c) + 1 → ⊥) → PlainRank c e NoEdge
     led-out o = elim (ℕ-discrete (getD val cell 0) 0) [ yes z ↦ w .none z | no n ↦ not-start (w .some n) h (omega arith) o ]
 
@@ -249,8 +249,8 @@ module _ {c : Plain} {val e : List ℕ} {acc cell i n o : ℕ} (t : Reading c va
   said l k ev = ev ∙ sym (reads-sum (walking-reads walking) l k)
 
   -- a step back, with v more summed
-  next : (l : ℕ) → l ≡ placeOf true (getD e (i - 1) 0) → l < plainPlan c .k → {b v s : ℕ} → b ≡ getD (plainBack c) l 0
-      → v ≡ sum (steps-via c x y) l → s ≡ acc + v → Led c val e s (cell - b) (i - 1)
+  next : (l : ℕ) → l ≡ letterOf true (getD e (i - 1) 0) → l < plainPlan c .k → {b v s : ℕ} → b ≡ getD (plainBack c) l 0
+      → v ≡ sum (steps-via c x y) l → s ≡ acc + v → LedBack c val e s (cell - b) (i - 1)
   next l q k eb ev es = record {
     full = walking .full;
     i-le = omega (arith, walking .i-le);
@@ -274,12 +274,12 @@ module _ {c : Plain} {val e : List ℕ} {acc cell i n o : ℕ} (t : Reading c va
   pub across-fits : acc + (getD val (cell - n) 0 + getD val (cell - o) 0) < 2 ^ 64
   across-fits = walking-fits walking 2 (two-there (c .diagonal) .0) (said 2 (two-there (c .diagonal) .0) (reading-near .both))
 
-  pub north-led : getD e (i - 1) 0 ≡ 78 → Led c val e acc (cell - n) (i - 1)
+  pub north-led : getD e (i - 1) 0 ≡ 78 → LedBack c val e acc (cell - n) (i - 1)
   unfolding sum
   north-led b = next 0 (place-n true _ refl b) (omega (arith, two-there (c .diagonal))) (t .north) refl (omega arith)
 
   module _ (a : getD e (i - 1) 0 ≡ 78 → ⊥) where
-    pub east-led : getD e (i - 1) 0 ≡ 69 → Led c val e (acc + getD val (cell - n) 0) (cell - o) (i - 1)
+    pub east-led : getD e (i - 1) 0 ≡ 69 → LedBack c val e (acc + getD val (cell - n) 0) (cell - o) (i - 1)
     east-led b = next 1 (place-e true _ refl a b) (omega (arith, two-there (c .diagonal))) (t .east) (reading-near .one) refl
 
     module _ (m : getD e (i - 1) 0 ≡ 69 → ⊥) where
@@ -295,7 +295,7 @@ module _ {c : Plain} {val e : List ℕ} {acc cell i n o : ℕ} (t : Reading c va
         d : c .diagonal ≡ true
         d = is-true (c .diagonal) (and-right (eqb (getD e (i - 1) 0) 68) (c .diagonal) (holds is))
 
-        letter : 2 ≡ placeOf true (getD e (i - 1) 0)
+        letter : 2 ≡ letterOf true (getD e (i - 1) 0)
         letter = place-d true _ refl a m (eqb→eq (getD e (i - 1) 0) 68 (and-left (eqb (getD e (i - 1) 0) 68) (c .diagonal) (holds is)))
 
         pub across-left : cell < n + o → PlainRank c e NoEdge
@@ -304,7 +304,7 @@ module _ {c : Plain} {val e : List ℕ} {acc cell i n o : ℕ} (t : Reading c va
             zero : cell - (n + o) ≡ 0 → getD val (cell - (n + o)) 0 ≡ 0
             zero z = rw z (cell-value _ (getD (walking .full .solid .ov) 0 0) 0 (walking .full .solid .flags .front 0 (omega arith)) (omega arith))
 
-        pub across-led : Led c val e (acc + (getD val (cell - n) 0 + getD val (cell - o) 0)) (cell - (n + o)) (i - 1)
+        pub across-led : LedBack c val e (acc + (getD val (cell - n) 0 + getD val (cell - o) 0)) (cell - (n + o)) (i - 1)
         across-led = next 2 letter (rw d (omega arith)) (across-back c (t .north) (t .east) d) (reading-near .both) refl
 
 -- ---- the loop of `spell`, which doesn't keep the height

@@ -45,7 +45,7 @@ use Rattle.tables.specs.Table.{Offsets}
 use Rattle.tables.specs.Plans.{strideFor, cellsFor, Planned, PlanOf}
 use Rattle.rows.specs.Rows.{Rises, PlainSteps, PlainStepsFor}
 use Rattle.lines.specs.Known.{CountsOf, NumbersOf, BuildsOf}
-use Rattle.rows.specs.Plains.{plainOf, plainJob, plainCount, plainPlan, plainRight, plainUp, plainBack, PlainReady, PlainNumbers, PlainBuilds, Within}
+use Rattle.rows.specs.Plains.{plainOf, plainJob, plainCount, plainPlan, plainRight, plainUp, plainBack, PlainReady, PlainNumbers, PlainBuilds, PlainRange}
 use Rattle.rows.specs.declared.plain.Plain.{Plain}
 use Rattle.tables.specs.declared.Shape.{Shape}
 use Rattle.tables.proofs.Walls.{wall-none}
@@ -250,7 +250,7 @@ module _ (c : Plain) where
       go true e l = (l, omega (arith, ltb-true (c .n) (c .m) e))
       go false e l = (omega (arith, ltb-false (c .n) (c .m) e), l)
 
-  module _ (w : Within c) (l : plainPlan c .ey ≤ 33) where
+  module _ (w : PlainRange c) (l : plainPlan c .ey ≤ 33) where
     form : steps-form
     form =
         plain-form (pick (c .diagonal) 3 2) (plainRight c) (plainUp c) (c .n + c .m) (plainPlan c .ey) refl refl (many (c .diagonal) .0)
@@ -271,7 +271,7 @@ module _ (c : Plain) {y : ℕ} (ey : y ≡ plainPlan c .ey) where
   pub plain-over : 33 < y → 2 ^ 64 ≤ countOf (plainJob c)
   plain-over l = let h = above c (omega arith) in rw (← ends-is c) (ends-over (c .diagonal) (c .n) (c .m) (h .0) (h .1))
 
-  module _ (w : Within c) (l : y ≤ 33) where
+  module _ (w : PlainRange c) (l : y ≤ 33) where
     low : plainPlan c .ey ≤ 33
     low = omega arith
 
@@ -294,7 +294,7 @@ module _ (c : Plain) {y : ℕ} (ey : y ≡ plainPlan c .ey) where
 
 pub record Levelled (j : Job) : Type 0 where
   pub m-least : 128 ≤ j .m
-  pub within : Within (plainOf j)
+  pub within : PlainRange (plainOf j)
 
 level-within : {j : Job} {m : ℕ} → Level j m → Levelled j
 level-within v = record { m-least = omega (arith, v .m-is); within = record { n-most = v .n-most; m-most = omega (arith, v .m-is, v .m-most) } }

@@ -9,10 +9,10 @@ use Rattle.rules.specs.Blocks.{familyOf, plain}
 use Rattle.lines.specs.Known.{Refusing, Ending}
 use Rattle.rows.specs.declared.known.Known.{Known}
 use Rattle.rows.specs.declared.known.Known.the-variants.{NotMine, NoRoom, Refused, End}
-use Rattle.rows.specs.Plains.{plainJob, Within}
+use Rattle.rows.specs.Plains.{plainJob, PlainRange}
 
 abbrev pub KnownIs : List ℕ → Bool → Known → Type 0
 KnownIs b room NotMine = plain (familyOf b) ≡ false
 KnownIs b room NoRoom = (plain (familyOf b) ≡ true) × (room ≡ false)
 KnownIs b room (Refused r) = Refusing (plain (familyOf b)) room b r
-KnownIs b room (End c) = Within c × Ending (plain (familyOf b)) room b (plainJob c)
+KnownIs b room (End c) = PlainRange c × Ending (plain (familyOf b)) room b (plainJob c)

@@ -9,7 +9,7 @@
 --   rises c                  how far up N goes: 1, or 0 where n is below m
 --   isAcross c b             the byte b is a D, and D is a step of the job
 --   plainEnd c              where the end's count stands in the table
---   Within c                 n and m are at most 64
+--   PlainRange c                 n and m are at most 64
 --   PlainSizes, PlainReady, PlainBlank, PlainReadable    SizesFor, PreparedFor, Blank and Readable by that plan and these steps
 --   plainWalks, plainValid, plainNumber, PlainRank, PlainRanks, PlainNumbers, plainEdge, PlainLists, PlainBuilds    walksFor, validFor, rankFor, RankFor, FrontIn, NumbersFor, edgeFor,
 --                            ListsFor and BuildsFor by them
@@ -83,7 +83,7 @@ abbrev pub plainEnd : Plain → ℕ
 plainEnd c = place 1 (plainPlan c .ey) (c .n + c .m) (plainPlan c .ey)
 
 -- "n, m 0 to 64"
-pub record Within (c : Plain) : Type 0 where
+pub record PlainRange (c : Plain) : Type 0 where
   pub n-most : c .n ≤ 64
   pub m-most : c .m ≤ 64
 

@@ -2,7 +2,7 @@
 -- D(n-1,m) + D(n-1,m-1)", so along a row each cell is the one before it and what the row below brings, and a sum is kept in hand.
 --
 --   Rises a b       one of the two is 1, the other 0
---   Plain three    the steps are (1,1) and (1,0), in either order, and (2,1) where three is true
+--   PlainMoves three    the steps are (1,1) and (1,0), in either order, and (2,1) where three is true
 --   PlainSteps        such steps, so that hi is 6 and m is 1, for an end that they can reach; PlainStepsFor: by a plan
 --   Done y i u v    of row v the cell in column u is filled, when the rows below y are, and i cells of row y
 --   Rows .. y i     the cells that are filled are right, and every other one is 0; row v runs from column v to v + n
@@ -28,7 +28,7 @@ use Rattle.tables.specs.declared.Wall.{Wall}
 abbrev pub Rises : ℕ → ℕ → Type 0
 Rises a b = ((a ≡ 1) × (b ≡ 0)) ⊎ ((a ≡ 0) × (b ≡ 1))
 
-pub record Plain (three : Bool) (k : ℕ) (f : Wall) (sa sc : List ℕ) : Type 0 where
+pub record PlainMoves (three : Bool) (k : ℕ) (f : Wall) (sa sc : List ℕ) : Type 0 where
   pub level : f ≡ unwalled
   pub many : k ≡ pick three 3 2
   pub one : getD sa 0 0 ≡ 1
@@ -37,7 +37,7 @@ pub record Plain (three : Bool) (k : ℕ) (f : Wall) (sa sc : List ℕ) : Type 0
   pub third : three ≡ true → (getD sa 2 0 ≡ 2) × (getD sc 2 0 ≡ 1)
 
 pub record PlainSteps (k : ℕ) (f : Wall) (sa sc : List ℕ) (hi m ex ey : ℕ) : Type 0 where
-  pub plain : Plain (eqb k 3) k f sa sc
+  pub plain : PlainMoves (eqb k 3) k f sa sc
   pub slope : hi ≡ 6
   pub deep : m ≡ 1
   pub wide : ey ≤ ex

@@ -1,7 +1,7 @@
 // Families 1 and 3: count, number and build. The count keeps one row of counts; number and build fill the table, row by row.
 ghost use mathlib.Core.Path.{_≡_};
 ghost use Rattle.job.specs.Replies.{reply, countSays};
-ghost use Rattle.rows.specs.Plains.{Within, plainCount};
+ghost use Rattle.rows.specs.Plains.{PlainRange, plainCount};
 ghost use Rattle.rows.specs.Meets.{CountMeets, NumberAllMeets, BuildAllMeets};
 
 mod known;
@@ -22,7 +22,7 @@ use lines::Wrote;
 use plain::Plain;
 
 fn count_of(c: Plain) -> Counted
-    requires { ⌜ Within c ⌝ }
+    requires { ⌜ PlainRange c ⌝ }
     ensures { λ r. ⌜ countSays r ≡ reply (plainCount c) ⌝ }
 {
     plains::count(c.n as u8, c.m as u8, c.diagonal)

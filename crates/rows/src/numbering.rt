@@ -4,7 +4,7 @@ ghost use Prim.Native.Nat.{_≤_};
 ghost use lib.ListN.{length};
 ghost use Rattle.lines.specs.Lines.{cutFrom};
 ghost use Rattle.lines.specs.Known.{NumbersOf};
-ghost use Rattle.rows.specs.Plains.{plainJob, isAcross, PlainRank, PlainRanks, PlainNumbers, PlainBlank, PlainReadable, PlainReady, Within};
+ghost use Rattle.rows.specs.Plains.{plainJob, isAcross, PlainRank, PlainRanks, PlainNumbers, PlainBlank, PlainReadable, PlainReady, PlainRange};
 use crate::plain::HIGHEST;
 use crate::plain::Plain;
 use crate::plain::cells_of;
@@ -155,7 +155,7 @@ pub(crate) fn number_edges(
     ends: &[usize],
     numbers: &mut [u64],
 ) -> Ranked
-    requires { ⌜ Within c × (length (now ends) ≤ length (now numbers)) ⌝ }
+    requires { ⌜ PlainRange c × (length (now ends) ≤ length (now numbers)) ⌝ }
     ensures { λ r. ⌜ NumbersOf (plainJob c) (cutFrom from (now (ends .entry)) (now (bytes .entry))) (now (numbers .entry)) (now (numbers .exit)) r ⌝ }
 {
     if HIGHEST < lesser(c) {

@@ -3,7 +3,7 @@ ghost use mathlib.Core.Path.{_≡_};
 ghost use Prim.Native.Nat.{_≤_};
 ghost use lib.ListN.{getD};
 ghost use Rattle.tables.specs.Plans.{strideFor, cellsFor};
-ghost use Rattle.rows.specs.Plains.{plainOf, plainPlan, plainBack, plainEnd, rises, PlainSizes, Within};
+ghost use Rattle.rows.specs.Plains.{plainOf, plainPlan, plainBack, plainEnd, rises, PlainSizes, PlainRange};
 use job::Job;
 
 // The end (n, m), and whether there is a step D.
@@ -81,7 +81,7 @@ pub(crate) fn end_of(c: Plain) -> usize
 
 // How many cells the table has.
 pub(crate) fn cells_of(c: Plain) -> usize
-    requires { ⌜ Within c ⌝ }
+    requires { ⌜ PlainRange c ⌝ }
     ensures { λ r. ⌜ r ≡ cellsFor (plainPlan c) ⌝ }
 {
     (c.n + c.m + 2) * (lesser(c) + 2)

@@ -8,7 +8,7 @@ ghost use Rattle.rules.specs.Questions.{allBelow};
 ghost use Rattle.lines.specs.Known.{BuildsOf};
 ghost use Rattle.tables.specs.Plans.{RoomFor};
 ghost use Rattle.tables.specs.Spelling.{Front};
-ghost use Rattle.rows.specs.Plains.{plainJob, plainWalks, plainEdge, PlainBlank, PlainReadable, PlainReady, PlainLists, PlainBuilds, Within};
+ghost use Rattle.rows.specs.Plains.{plainJob, plainWalks, plainEdge, PlainBlank, PlainReadable, PlainReady, PlainLists, PlainBuilds, PlainRange};
 use crate::plain::HIGHEST;
 use crate::plain::Plain;
 use crate::plain::cells_of;
@@ -137,7 +137,7 @@ fn spell_large(c: Plain, numbers: &[u64], steps: &mut [u8], ends: &mut [usize]) 
 
 // The edges of the numbers of a job, or refusal 4 or 6.
 pub(crate) fn spell_edges(c: Plain, numbers: &[u64], steps: &mut [u8], ends: &mut [usize]) -> Built
-    requires { ⌜ Within c × RoomFor (now numbers) (now steps) (now ends) ⌝ }
+    requires { ⌜ PlainRange c × RoomFor (now numbers) (now steps) (now ends) ⌝ }
     ensures { λ r. ⌜ BuildsOf (plainJob c) (now (numbers .entry)) (now (steps .entry)) (now (ends .entry)) (now (steps .exit)) (now (ends .exit)) r ⌝ }
 {
     if HIGHEST < lesser(c) {

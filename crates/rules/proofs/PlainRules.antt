@@ -30,7 +30,7 @@ use Rattle.rules.specs.Jobs.Job.{north-east, delannoy}
 use Rattle.rules.specs.Valid.{place, at, walks, Valid}
 use Rattle.rules.specs.Order.{Before}
 use Rattle.rules.specs.Counts.{L, Dl, countOf}
-use Rattle.rules.specs.Numbers.{raised, ending, numberBack, numberOf, edgeOf}
+use Rattle.rules.specs.Numbers.{rimmed, ending, numberBack, numberOf, edgeOf}
 use Rattle.rules.specs.StepRules.{PlainFamily, RulesPlainNumber, rankPlain, RulesPlainEdge}
 use Rattle.rules.specs.StepRules.PlainFamily.{of-north-east, of-delannoy}
 use Rattle.rules.proofs.Letters.{point-eq, same-eq}
@@ -47,7 +47,7 @@ record Plainly (family : ℕ → ℕ → Job) (count : ℕ → ℕ → ℕ) (d :
   start : (n m : ℕ) → startOf (family n m) ≡ origin
   end : (n m : ℕ) → endOf (family n m) ≡ point n m
   free : (n m : ℕ) (p : Point) → stays (family n m) p ≡ true
-  numbers : (n m : ℕ) (e : List ℕ) → numberOf (family n m) e ≡ numberBack (family n m) (raised count) (endOf (family n m)) (reverse e)
+  numbers : (n m : ℕ) (e : List ℕ) → numberOf (family n m) e ≡ numberBack (family n m) (rimmed count) (endOf (family n m)) (reverse e)
   all : (n m : ℕ) → Numbering (Valid (family n m)) (Before (family n m)) (count n m) (numberOf (family n m)) (edgeOf (family n m))
   left : (m : ℕ) → count 0 m ≡ 1
   low : (n : ℕ) → count n 0 ≡ 1
@@ -82,11 +82,11 @@ delannoy-plainly = record {
 }
 
 -- what a last step adds: the counts at the points before the earlier ones
-term : (K : ℕ → ℕ → ℕ) (x y a c l n m : ℕ) → x + a ≡ n → y + c ≡ m → ending (raised K) (point n m) (step l a (pos c)) ≡ K x y
+term : (K : ℕ → ℕ → ℕ) (x y a c l n m : ℕ) → x + a ≡ n → y + c ≡ m → ending (rimmed K) (point n m) (step l a (pos c)) ≡ K x y
 term K x y a c l n m e h =
     let q : n - a ≡ x = omega arith in
     let z : pos m -ℤ pos c ≡ pos y = ap (λ (k : ℕ). pos k -ℤ pos c) (sym h) ∙ ap (λ (w : ℤ). w -ℤ pos c) (sym (pos-+ℤ-pos y c)) ∙ +ℤ-negℤ-cancel (pos y) (pos c) in
-    ap (λ (t : Bool). pick t (raised K (n - a) (pos m -ℤ pos c)) 0) (is-true (leb a n) (le→leb a n (omega arith))) ∙ ap₂ (raised K) q z
+    ap (λ (t : Bool). pick t (rimmed K (n - a) (pos m -ℤ pos c)) 0) (is-true (leb a n) (le→leb a n (omega arith))) ∙ ap₂ (rimmed K) q z
 
 onto : (x y a c l n m : ℕ) → x + a ≡ n → y + c ≡ m → moved (point x y) (step l a (pos c)) ≡ point n m
 onto x y a c l n m e h = point-eq e (pos-+ℤ-pos y c ∙ ap pos h)
@@ -111,11 +111,11 @@ module _ (family : ℕ → ℕ → Job) (count : ℕ → ℕ → ℕ) (d : Bool)
     back : endOf (family x y) ≡ undone (endOf (family n m)) (at (stepsOf (family n m)) i)
     back = rw (A .end x y, A .end n m, A .steps n m) (sym (undone-moved (point x y) (at ss i)) ∙ ap (λ (p : Point). undone p (at ss i)) (s .moves))
 
-    number-last : (e : List ℕ) → numberOf (family n m) (e ++ (b ∷ [])) ≡ sum (λ j. ending (raised count) (point n m) (at ss j)) i + numberOf (family x y) e
+    number-last : (e : List ℕ) → numberOf (family n m) (e ++ (b ∷ [])) ≡ sum (λ j. ending (rimmed count) (point n m) (at ss j)) i + numberOf (family x y) e
     number-last e =
         A .numbers n m (e ++ (b ∷ []))
-        ∙ number-snoc (family x y) (family n m) (kin x y n m) (raised count) b i e (rw (A .steps n m) (s .named)) back
-        ∙ ap₂ _+_ (ap₂ (λ (p : Point) (t : List Step). sum (λ j. ending (raised count) p (at t j)) i) (A .end n m) (A .steps n m)) (sym (A .numbers x y e))
+        ∙ number-snoc (family x y) (family n m) (kin x y n m) (rimmed count) b i e (rw (A .steps n m) (s .named)) back
+        ∙ ap₂ _+_ (ap₂ (λ (p : Point) (t : List Step). sum (λ j. ending (rimmed count) p (at t j)) i) (A .end n m) (A .steps n m)) (sym (A .numbers x y e))
 
     rest-valid : (e : List ℕ) → Valid (family n m) (e ++ (b ∷ [])) → Valid (family x y) e
     unfolding Valid
@@ -128,10 +128,10 @@ module _ (family : ℕ → ℕ → Job) (count : ℕ → ℕ → ℕ) (d : Bool)
         rw (A .start n m) (walks-on (family x y) (family n m) (kin x y n m) b (rw (A .steps n m, s .named) (s .there))
         (rw (A .steps n m, s .named, A .end x y, A .end n m) (s .moves)) (rw (A .free n m) tt) e origin (rw (A .start x y) at t))
 
-    edge-last : (r : ℕ) → r < count x y → edgeOf (family n m) (sum (λ j. ending (raised count) (point n m) (at ss j)) i + r) ≡ edgeOf (family x y) r ++ (b ∷ [])
+    edge-last : (r : ℕ) → r < count x y → edgeOf (family n m) (sum (λ j. ending (rimmed count) (point n m) (at ss j)) i + r) ≡ edgeOf (family x y) r ++ (b ∷ [])
     edge-last r l =
         let e : List ℕ = edgeOf (family x y) r in
-        ap (edgeOf (family n m)) (sym (number-last e ∙ ap (λ (k : ℕ). sum (λ j. ending (raised count) (point n m) (at ss j)) i + k) (A .all x y .there r l)))
+        ap (edgeOf (family n m)) (sym (number-last e ∙ ap (λ (k : ℕ). sum (λ j. ending (rimmed count) (point n m) (at ss j)) i + k) (A .all x y .there r l)))
         ∙ A .all n m .back (e ++ (b ∷ [])) (longer-valid e (A .all x y .has r l))
 
   -- ---- the three steps
@@ -173,7 +173,7 @@ module _ (family : ℕ → ℕ → Job) (count : ℕ → ℕ → ℕ) (d : Bool)
   -- ---- numbers
 
   abbrev terms : ℕ → ℕ → ℕ → ℕ
-  terms n m j = ending (raised count) (point n m) (at ss j)
+  terms n m j = ending (rimmed count) (point n m) (at ss j)
 
   terms-one : (n m : ℕ) → sum (terms (suc n) (suc m)) 1 ≡ count (suc n) m
   unfolding sum
@@ -198,7 +198,7 @@ module _ (family : ℕ → ℕ → Job) (count : ℕ → ℕ → ℕ) (d : Bool)
       diagonal n m e (in-D t q) = omega (arith, number-last D 2 n m (suc n) (suc m) (by-D n m t) e, terms-two n m)
 
   rim : (n m : ℕ) → (n ≡ 0) ⊎ (m ≡ 0) → (e : List ℕ) (b : ℕ) → Valid (family n m) (e ++ (b ∷ []))
-      → sum (λ j. ending (raised count) (endOf (family n m)) (at (stepsOf (family n m)) j)) (place b (stepsOf (family n m))) ≡ 0
+      → sum (λ j. ending (rimmed count) (endOf (family n m)) (at (stepsOf (family n m)) j)) (place b (stepsOf (family n m))) ≡ 0
   unfolding numberBack
   rim n m r e b t = omega (arith, one r, A .all n m .below (e ++ (b ∷ [])) t, rw (reverse-append e (b ∷ [])) at (A .numbers n m (e ++ (b ∷ []))))
     where
@@ -362,6 +362,6 @@ plain-stops {family} {count} P = plain-number-only P (λ n m. numberOf (family n
 
 -- as every further sum is 0 there
 pub plain-rim : {family : ℕ → ℕ → Job} {count : ℕ → ℕ → ℕ} → PlainFamily family count → (n m : ℕ) → (n ≡ 0) ⊎ (m ≡ 0) → (e : List ℕ) (b : ℕ) → Valid (family n m) (e ++ (b ∷ []))
-    → sum (λ j. ending (raised count) (endOf (family n m)) (at (stepsOf (family n m)) j)) (place b (stepsOf (family n m))) ≡ 0
+    → sum (λ j. ending (rimmed count) (endOf (family n m)) (at (stepsOf (family n m)) j)) (place b (stepsOf (family n m))) ≡ 0
 plain-rim of-north-east = rim north-east L false north-east-plainly
 plain-rim of-delannoy = rim delannoy Dl true delannoy-plainly

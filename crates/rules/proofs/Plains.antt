@@ -29,8 +29,8 @@ use Rattle.rules.specs.Jobs.Job.{north-east, delannoy}
 use Rattle.rules.specs.Valid.{place, at}
 use Rattle.rules.specs.Order.{standing}
 use Rattle.rules.specs.Counts.{L, Dl}
-use Rattle.rules.specs.Numbers.{raised}
-use Rattle.rules.proofs.Shear.{Plain, northEastGrid, delannoyGrid}
+use Rattle.rules.specs.Numbers.{rimmed}
+use Rattle.rules.proofs.Shear.{Upright, northEastGrid, delannoyGrid}
 use Rattle.rules.proofs.Letters.{point-eq}
 use Rattle.rules.proofs.Signed.{is-one, is-minus}
 use Rattle.rules.proofs.Sheared.{Back, Shear, Counted}
@@ -94,7 +94,7 @@ diff-below : (y c : ℕ) → y < c → pos y -ℤ pos c ≡ negsuc (c - suc y)
 diff-below y c l = is-one (pos y -ℤ pos c) (negsuc (c - suc y)) (y + 0) (0 + c) (is-minus (pos y) (pos c) y 0 c 0 (omega arith) (omega arith)) (omega arith)
 
 module _ (ss : List Step) (G : Steps) (H : PlainSteps ss G) (K : ℕ → ℕ → ℕ) where
-  undo : (p : Point) (q : Spot) (i : ℕ) → i < G .k → Plain p q → Back ss G (raised K) Plain p q i
+  undo : (p : Point) (q : Spot) (i : ℕ) → i < G .k → Upright p q → Back ss G (rimmed K) Upright p q i
   undo p q i l a = go (decLe (at ss i .a) (p .x)) (decLe (G .c i) (q .y))
     where
       s : Step
@@ -103,23 +103,23 @@ module _ (ss : List Step) (G : Steps) (H : PlainSteps ss G) (K : ℕ → ℕ →
       y : p .y -ℤ s .b ≡ pos (q .y) -ℤ pos (G .c i)
       y = ap₂ _-ℤ_ (a .up) (H .up i l)
 
-      go : Dec (at ss i .a ≤ p .x) → Dec (G .c i ≤ q .y) → Back ss G (raised K) Plain p q i
+      go : Dec (at ss i .a ≤ p .x) → Dec (G .c i ≤ q .y) → Back ss G (rimmed K) Upright p q i
       go (yes h) (yes k) =
           to (reaches G q i (omega (arith, a .across, H .right i l)) k) h
           (record { across = omega (arith, a .across, H .right i l); up = y ∙ diff (q .y) (G .c i) k })
       go (yes h) (no k) =
           gone (term-out ss G H q i (omega arith))
-          (ap (λ (b : Bool). pick b (raised K (p .x - s .a) (p .y -ℤ s .b)) 0) (is-true (leb (s .a) (p .x)) (le→leb (s .a) (p .x) h))
-          ∙ ap (raised K (p .x - s .a)) (y ∙ diff-below (q .y) (G .c i) (omega arith)))
+          (ap (λ (b : Bool). pick b (rimmed K (p .x - s .a) (p .y -ℤ s .b)) 0) (is-true (leb (s .a) (p .x)) (le→leb (s .a) (p .x) h))
+          ∙ ap (rimmed K (p .x - s .a)) (y ∙ diff-below (q .y) (G .c i) (omega arith)))
       go (no h) d =
           gone (term-none ss G H q i (omega (arith, a .across, H .right i l)))
-          (ap (λ (b : Bool). pick b (raised K (p .x - s .a) (p .y -ℤ s .b)) 0) (is-false (leb (s .a) (p .x)) (λ t. h (leb→le (s .a) (p .x) t))))
+          (ap (λ (b : Bool). pick b (rimmed K (p .x - s .a) (p .y -ℤ s .b)) 0) (is-false (leb (s .a) (p .x)) (λ t. h (leb→le (s .a) (p .x) t))))
 
 -- what the theorem asks, from the steps and their letters
 pub plain-shear : (ss : List Step) (G : Steps) → PlainSteps ss G
     → ((i : ℕ) → i < G .k → place (at ss i .letter) ss ≡ i)
     → ((i : ℕ) → i < G .k → standing (at ss i .letter) ≡ i)
-    → Shear ss origin (λ p. true) G Plain
+    → Shear ss origin (λ p. true) G Upright
 plain-shear ss G H own stands = record {
   named = record { many = H .many; own = own; rising = λ i j l m. omega (arith, stands i (omega arith), stands j m) };
   onward = H .onward;
@@ -134,10 +134,10 @@ plain-shear ss G H own stands = record {
 }
 
 -- and from the counts
-pub plain-counted : (ss : List Step) (G : Steps) (K : ℕ → ℕ → ℕ) → PlainSteps ss G → ((x y : ℕ) → K x y ≡ paths G (record { x = x + y; y = y })) → Counted ss G (raised K) Plain
+pub plain-counted : (ss : List Step) (G : Steps) (K : ℕ → ℕ → ℕ) → PlainSteps ss G → ((x y : ℕ) → K x y ≡ paths G (record { x = x + y; y = y })) → Counted ss G (rimmed K) Upright
 plain-counted ss G K H counts = record {
   undo = undo ss G H K;
-  agrees = λ p q a. ap (raised K (p .x)) (a .up) ∙ counts (p .x) (q .y) ∙ ap (paths G) (spot-eq {q = q} (a .across) refl);
+  agrees = λ p q a. ap (rimmed K (p .x)) (a .up) ∙ counts (p .x) (q .y) ∙ ap (paths G) (spot-eq {q = q} (a .across) refl);
 }
 
 -- ---- case by case over two or three steps
@@ -200,14 +200,14 @@ L-agrees (suc n) (suc m) =
       term ss G H p (record { x = n + suc m; y = suc m }) 1 (omega arith) (omega arith),
     )
 
-pub north-east-shear : (n m : ℕ) → Shear (stepsOf (north-east n m)) origin (λ p. true) northEastGrid Plain
+pub north-east-shear : (n m : ℕ) → Shear (stepsOf (north-east n m)) origin (λ p. true) northEastGrid Upright
 unfolding place standing
 north-east-shear n m =
     let ss = stepsOf (north-east n m) in
     plain-shear ss northEastGrid (north-east-plain n m)
     (two (λ i. place (at ss i .letter) ss ≡ i) refl refl) (two (λ i. standing (at ss i .letter) ≡ i) refl refl)
 
-pub north-east-counted : (n m : ℕ) → Counted (stepsOf (north-east n m)) northEastGrid (raised L) Plain
+pub north-east-counted : (n m : ℕ) → Counted (stepsOf (north-east n m)) northEastGrid (rimmed L) Upright
 north-east-counted n m = plain-counted (stepsOf (north-east n m)) northEastGrid L (north-east-plain n m) L-agrees
 
 -- ---- family 3
@@ -272,12 +272,12 @@ D-agrees (suc n) (suc m) =
       term ss G H p (record { x = n + m; y = m }) 2 (omega arith) (omega arith),
     )
 
-pub delannoy-shear : (n m : ℕ) → Shear (stepsOf (delannoy n m)) origin (λ p. true) delannoyGrid Plain
+pub delannoy-shear : (n m : ℕ) → Shear (stepsOf (delannoy n m)) origin (λ p. true) delannoyGrid Upright
 unfolding place standing
 delannoy-shear n m =
     let ss = stepsOf (delannoy n m) in
     plain-shear ss delannoyGrid (delannoy-plain n m)
     (three (λ i. place (at ss i .letter) ss ≡ i) refl refl refl) (three (λ i. standing (at ss i .letter) ≡ i) refl refl refl)
 
-pub delannoy-counted : (n m : ℕ) → Counted (stepsOf (delannoy n m)) delannoyGrid (raised Dl) Plain
+pub delannoy-counted : (n m : ℕ) → Counted (stepsOf (delannoy n m)) delannoyGrid (rimmed Dl) Upright
 delannoy-counted n m = plain-counted (stepsOf (delannoy n m)) delannoyGrid Dl (delannoy-plain n m) D-agrees

@@ -2,7 +2,7 @@
 -- families 1, 3, 6 and 7, over any reader. Assumes nothing.
 --
 --   Named              the letters of the steps: each has its own place, and they stand in the order of their places
---   Known k w          each letter of the word w is below k
+--   LettersIn k w          each letter of the word w is below k
 --   word-known         a reader's words are such
 --   word-neighbours    a rule on neighbouring bytes as one on neighbouring letters
 --   reading            the theorem
@@ -34,18 +34,18 @@ pub record Named (ss : List Step) (k : ℕ) : Type 0 where
   pub own : (i : ℕ) → i < k → place (at ss i .letter) ss ≡ i
   pub rising : (i j : ℕ) → i < j → j < k → standing (at ss i .letter) < standing (at ss j .letter)
 
-abbrev pub Known : ℕ → List ℕ → Type 0
-Known k [] = Unit {0}
-Known k (i ∷ w) = (i < k) × Known k w
+abbrev pub LettersIn : ℕ → List ℕ → Type 0
+LettersIn k [] = Unit {0}
+LettersIn k (i ∷ w) = (i < k) × LettersIn k w
 
-known-aux : (k : ℕ) (u v : List ℕ) → Known k u → Known k v → Known k (reverseAux u v)
+known-aux : (k : ℕ) (u v : List ℕ) → LettersIn k u → LettersIn k v → LettersIn k (reverseAux u v)
 known-aux k [] v g h = h
 known-aux k (i ∷ u) v g h = known-aux k u (i ∷ v) (g .1) (g .0, h)
 
-pub known-turned : (k : ℕ) (u : List ℕ) → Known k u → Known k (reverse u)
+pub known-turned : (k : ℕ) (u : List ℕ) → LettersIn k u → LettersIn k (reverse u)
 known-turned k u g = known-aux k u [] g tt
 
-pub word-known : (R : Reader) → Lawful R → (w : List ℕ) (m : Option (R .State)) → T (valid R w m) → Known (R .letters) w
+pub word-known : (R : Reader) → Lawful R → (w : List ℕ) (m : Option (R .State)) → T (valid R w m) → LettersIn (R .letters) w
 word-known R L [] m t = tt
 word-known R L (i ∷ w) none t = absurd (none-valid R L (i ∷ w) t)
 word-known R L (i ∷ w) (some s) t = (letter R L s i w t, word-known R L w (R .back s i) (rest R L s i w t))
@@ -72,30 +72,30 @@ module _ (ss : List Step) (k : ℕ) (N : Named ss k) where
       go (inr (inl w)) = absurd (omega (arith, standing-up c b h l w))
       go (inr (inr e)) = absurd (omega (arith, ap standing (sym (byte b l) ∙ ap glyph e ∙ byte c h)))
 
-  pub order-on : (u v : List ℕ) → Known k (map pl u) → Known k (map pl v) → Decides u v → Precedes (map pl u) (map pl v)
+  pub order-on : (u v : List ℕ) → LettersIn k (map pl u) → LettersIn k (map pl v) → Decides u v → Precedes (map pl u) (map pl v)
   unfolding Decides
   order-on [] v g h d = absurd d
   order-on (b ∷ u) [] g h d = absurd d
   order-on (b ∷ u) (c ∷ v) g h (inl l) = inl (place-up b c (g .0) (h .0) l)
   order-on (b ∷ u) (c ∷ v) g h (inr d) = inr (ap pl (d .0), order-on u v (g .1) (h .1) (d .1))
 
-  pub order-off : (u v : List ℕ) → Known k (map pl u) → Known k (map pl v) → Precedes (map pl u) (map pl v) → Decides u v
+  pub order-off : (u v : List ℕ) → LettersIn k (map pl u) → LettersIn k (map pl v) → Precedes (map pl u) (map pl v) → Decides u v
   unfolding Decides
   order-off [] v g h d = absurd d
   order-off (b ∷ u) [] g h d = absurd d
   order-off (b ∷ u) (c ∷ v) g h (inl l) = inl (standing-up b c (g .0) (h .0) l)
   order-off (b ∷ u) (c ∷ v) g h (inr d) = inr (sym (byte b (g .0)) ∙ ap glyph (d .0) ∙ byte c (h .0), order-off u v (g .1) (h .1) (d .1))
 
-  pub letters-back : (w : List ℕ) → Known k w → map pl (map glyph w) ≡ w
+  pub letters-back : (w : List ℕ) → LettersIn k w → map pl (map glyph w) ≡ w
   letters-back [] g = refl
   letters-back (i ∷ w) g = ap₂ {C = List ℕ} (λ x y. x ∷ y) (N .own i (g .0)) (letters-back w (g .1))
 
-  pub bytes-back : (e : List ℕ) → Known k (map pl e) → map glyph (map pl e) ≡ e
+  pub bytes-back : (e : List ℕ) → LettersIn k (map pl e) → map glyph (map pl e) ≡ e
   bytes-back [] g = refl
   bytes-back (b ∷ e) g = ap₂ {C = List ℕ} (λ x y. x ∷ y) (byte b (g .0)) (bytes-back e (g .1))
 
   pub word-neighbours : (g f : ℕ → ℕ → Bool) → ((b c : ℕ) → pl b < k → pl c < k → g b c ≡ f (pl b) (pl c))
-      → (e : List ℕ) → Known k (map pl e) → neighbours g e ≡ neighbours f (map pl e)
+      → (e : List ℕ) → LettersIn k (map pl e) → neighbours g e ≡ neighbours f (map pl e)
   unfolding neighbours
   word-neighbours g f same [] h = refl
   word-neighbours g f same (b ∷ []) h = refl
@@ -103,15 +103,15 @@ module _ (ss : List Step) (k : ℕ) (N : Named ss k) where
 
 module _ (J : Job) (R : Reader) (L : Lawful R) (N : Named (stepsOf J) (R .letters)) (m : Option (R .State))
     (reads : (e : List ℕ) → isEdge J e ≡ valid R (wordOf J e) m) where
-  known : (e : List ℕ) → Valid J e → Known (R .letters) (wordOf J e)
+  known : (e : List ℕ) → Valid J e → LettersIn (R .letters) (wordOf J e)
   unfolding Valid
   known e t = word-known R L (wordOf J e) m (subst T (reads e) t)
 
   -- the letters of an edge, and of it turned round
-  ahead : (e : List ℕ) → Valid J e → Known (R .letters) (map (λ b. place b (stepsOf J)) e)
+  ahead : (e : List ℕ) → Valid J e → LettersIn (R .letters) (map (λ b. place b (stepsOf J)) e)
   ahead e t = rw reverse-reverse at (known-turned (R .letters) (wordOf J e) (known e t))
 
-  turned : (e : List ℕ) → Valid J e → Known (R .letters) (map (λ b. place b (stepsOf J)) (reverse e))
+  turned : (e : List ℕ) → Valid J e → LettersIn (R .letters) (map (λ b. place b (stepsOf J)) (reverse e))
   turned e t = rw map-reverse at (known e t)
 
   word-back : (u : List ℕ) → T (valid R u m) → wordOf J (spelt J u) ≡ u

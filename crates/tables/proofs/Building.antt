@@ -26,7 +26,7 @@ use Rattle.backward.proofs.Grids.{grid-lawful}
 use Rattle.tables.specs.Form.{wall, stepsIn, spot, walksTo, via}
 use Rattle.letters.specs.Letters.{glyphOf}
 use Rattle.tables.specs.declared.Plan as plans
-use Rattle.tables.specs.Edges.{walkEnd, walkOf, broughtAt, Summed, Reads, Sought}
+use Rattle.tables.specs.Edges.{walkEnd, walkAt, broughtAt, Summed, Reads, Sought}
 use Rattle.tables.specs.Plans.{strideFor, startFor, endFor, walksFor, edgeFor}
 use Rattle.tables.specs.Filling.{Readable}
 use Rattle.tables.proofs.Walls.{wall-start}
@@ -152,7 +152,7 @@ module _ {lettered : Bool} {p : plans.Plan} {sa sc off val : List ℕ} {r : ℕ}
   pos = pos-of (w .full .ready .slopes)
 
   pub writing-end : x ≤ 0 → (s ≤ 128) × (drop s buf ≡ edgeFor lettered p sa sc r)
-  unfolding walkOf unr
+  unfolding walkAt unr
   writing-end h = (
     w .s-le,
     write-done buf _ (map (glyphOf lettered) (unr (p .k) (p .wall) sa sc (p .ex) (p .ey) r)) s (ap (map (glyphOf lettered)) (unr-start (p .k) (p .wall) sa sc pos x y left h (w .less))) (w .so-far)

@@ -109,7 +109,7 @@ module _ (J : rules.Job) (s : Shape) {lettered : Bool} (f : Fits J lettered s) {
   plan-edges ns = rw (plan-count J s f po, po .k-is, po .wall-is, po .ex-is, po .ey-is) (go (allBelow (countOf J) ns) refl)
     where
       by : ℕ → List ℕ
-      by = edges.walkOf lettered (s .k) (s .wall) (s .sa) (s .sc) (s .ex) (s .ey)
+      by = edges.walkAt lettered (s .k) (s .wall) (s .sa) (s .sc) (s .ex) (s .ey)
 
       go : (t : Bool) → allBelow (countOf J) ns ≡ t
           → check (leb (countOf J) most) over (check t beyond (accepted (map by ns))) ≡ check (leb (countOf J) most) over (check t beyond (accepted (map (edgeOf J) ns)))

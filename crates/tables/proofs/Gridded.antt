@@ -18,13 +18,13 @@ use Rattle.rules.specs.Jobs.{Pair, one, numbered, stepsOf, endOf}
 use Rattle.rules.specs.Jobs.Job.{north-east, delannoy, directed}
 use Rattle.rules.specs.Valid.{place, at}
 use Rattle.rules.specs.Counts.{L, Dl, W, countOf}
-use Rattle.rules.specs.Numbers.{raised, numberOf, edgeOf}
+use Rattle.rules.specs.Numbers.{rimmed, numberOf, edgeOf}
 use Rattle.rules.proofs.Ranges.{Small}
-use Rattle.rules.proofs.Shear.{northEastGrid, delannoyGrid, slopeGrid, Plain, Slope}
+use Rattle.rules.proofs.Shear.{northEastGrid, delannoyGrid, slopeGrid, Upright, Slope}
 use Rattle.rules.proofs.Sheared.{walks-word, number-word, edge-word}
 use Rattle.rules.proofs.Plains.{north-east-shear, delannoy-shear, north-east-counted, delannoy-counted}
 use Rattle.rules.proofs.Slopes.{digit-at, digit-place, slope-shear, slope-counted}
-use Rattle.letters.specs.Letters.{placeOf, glyphOf}
+use Rattle.letters.specs.Letters.{letterOf, glyphOf}
 use Rattle.tables.specs.Gridded.{Agree, Gridded}
 use Rattle.tables.specs.Gridded.Agree.{same, both}
 
@@ -47,8 +47,8 @@ unfolding place numbered
 place-other d [] b f = refl
 place-other d (p ∷ ps) b f = rw (ne-eqb b d (λ e. omega (arith, f (omega arith)))) (ap suc (place-other (suc d) ps b (λ l. omega (arith, f (omega arith)))))
 
-digit-places : (ps : List Pair) (b : ℕ) → length ps ≤ 8 → Agree (length ps) (placeOf false b) (place b (numbered one ps))
-unfolding placeOf
+digit-places : (ps : List Pair) (b : ℕ) → length ps ≤ 8 → Agree (length ps) (letterOf false b) (place b (numbered one ps))
+unfolding letterOf
 digit-places ps b few = go (decLt b 49) (decLt 56 b) (decLt (b - 49) (length ps))
   where
     none-there : (one ≤ b → one + length ps ≤ b) → length ps ≤ place b (numbered one ps)
@@ -64,11 +64,11 @@ digit-places ps b few = go (decLt b 49) (decLt 56 b) (decLt (b - 49) (length ps)
 
 -- ---- the families
 
-plain-x : (n m : ℕ) (q : Spot) → Plain (record { x = n; y = pos m }) q → q .x ≤ n + m
+plain-x : (n m : ℕ) (q : Spot) → Upright (record { x = n; y = pos m }) q → q .x ≤ n + m
 plain-x n m q c = let e : m ≡ q .y = cc in omega (arith, c .across)
 
-pub north-east-gridded : (n m : ℕ) (q : Spot) → Plain (endOf (north-east n m)) q → Gridded (north-east n m) true northEastGrid q
-unfolding placeOf place glyphOf numberOf edgeOf countOf
+pub north-east-gridded : (n m : ℕ) (q : Spot) → Upright (endOf (north-east n m)) q → Gridded (north-east n m) true northEastGrid q
+unfolding letterOf place glyphOf numberOf edgeOf countOf
 north-east-gridded n m q s =
     let J = north-east n m in
     let H = north-east-shear n m in
@@ -77,14 +77,14 @@ north-east-gridded n m q s =
       places = λ b. two-places (eqb b 78) (eqb b 69) (eqb b 68);
       glyphs = two (λ i. glyphOf true i ≡ at (stepsOf J) i .letter) refl refl;
       onward = H .onward;
-      walks = walks-word J northEastGrid Plain H q s;
-      numbers = number-word J northEastGrid Plain H (raised L) C q s;
-      spells = λ r l. edge-word J northEastGrid Plain H (raised L) C q s (n + m) r (plain-x n m q s) l;
+      walks = walks-word J northEastGrid Upright H q s;
+      numbers = number-word J northEastGrid Upright H (rimmed L) C q s;
+      spells = λ r l. edge-word J northEastGrid Upright H (rimmed L) C q s (n + m) r (plain-x n m q s) l;
       counts = C .agrees (endOf J) q s;
     }
 
-pub delannoy-gridded : (n m : ℕ) (q : Spot) → Plain (endOf (delannoy n m)) q → Gridded (delannoy n m) true delannoyGrid q
-unfolding placeOf place glyphOf numberOf edgeOf countOf
+pub delannoy-gridded : (n m : ℕ) (q : Spot) → Upright (endOf (delannoy n m)) q → Gridded (delannoy n m) true delannoyGrid q
+unfolding letterOf place glyphOf numberOf edgeOf countOf
 delannoy-gridded n m q s =
     let J = delannoy n m in
     let H = delannoy-shear n m in
@@ -93,9 +93,9 @@ delannoy-gridded n m q s =
       places = λ b. three-places (eqb b 78) (eqb b 69) (eqb b 68);
       glyphs = three (λ i. glyphOf true i ≡ at (stepsOf J) i .letter) refl refl refl;
       onward = H .onward;
-      walks = walks-word J delannoyGrid Plain H q s;
-      numbers = number-word J delannoyGrid Plain H (raised Dl) C q s;
-      spells = λ r l. edge-word J delannoyGrid Plain H (raised Dl) C q s (n + m) r (plain-x n m q s) l;
+      walks = walks-word J delannoyGrid Upright H q s;
+      numbers = number-word J delannoyGrid Upright H (rimmed Dl) C q s;
+      spells = λ r l. edge-word J delannoyGrid Upright H (rimmed Dl) C q s (n + m) r (plain-x n m q s) l;
       counts = C .agrees (endOf J) q s;
     }
 

@@ -43,7 +43,7 @@ use Rattle.job.specs.Stands.{Directed, Stands}
 use Rattle.job.proofs.Sorts.{AsDirected, directed-of}
 use Rattle.job.proofs.Sorts.AsDirected.{as-directed}
 use Rattle.tables.specs.declared.Wall.{Wall}
-use Rattle.tables.specs.Form.{wall, fence}
+use Rattle.tables.specs.Form.{wall, fenceOf}
 use Rattle.tables.specs.Shapes.{stepsAt, endAt, Shaped, ShapedFor, Ranged, Fenced, Laying, Laid, Gentle, Beyond, Lowered, Chosen}
 use Rattle.tables.specs.Shapes.Lowered.{reached, unreached}
 use Rattle.tables.specs.Shapes.Chosen.{sunk, lowered}
@@ -154,7 +154,7 @@ module _ (j : Job) (fenced : Bool) (m : ℤ) (pairs : List Pair) (d : Directed j
       let h : Is m 0 (3 * j .n + suc t) = below t (omega arith) in
       nothing e (W-none fenced 0 pairs small (j .n) t m h) (no-edge t h)
 
-  module _ (s : Shape) (w : Laid j (fence (pick fenced 3 0) 0) s) where
+  module _ (s : Shape) (w : Laid j (fenceOf (pick fenced 3 0) 0) s) where
     lifted : (i : ℕ) → i < j .k → getD (j .b) i 0 + 3 * getD (j .a) i 0 - 128 ≡ G .c i
     lifted i l =
         let z : ℤ = pairAt pairs i .b in
@@ -170,7 +170,7 @@ module _ (j : Job) (fenced : Bool) (m : ℤ) (pairs : List Pair) (d : Directed j
       up = λ i h. omega (arith, w .steps .up i (omega (arith, w .k-is)), lifted i (omega (arith, w .k-is)));
       wall = λ x y.
           let z : y + 0 ≡ y + 0 * x + 0 = omega arith in
-          ap (λ (v : Wall). wall v x y) (w .wall-is) ∙ fence-is (fence (pick fenced 3 0) 0) x y refl ∙ ap (leb (pick fenced 3 0 * x)) z;
+          ap (λ (v : Wall). wall v x y) (w .wall-is) ∙ fence-is (fenceOf (pick fenced 3 0) 0) x y refl ∙ ap (leb (pick fenced 3 0 * x)) z;
     }
 
     sits : 128 ≤ j .m + 3 * j .n → Slope 0 (endOf J) (endAt s)
@@ -183,19 +183,19 @@ module _ (j : Job) (fenced : Bool) (m : ℤ) (pairs : List Pair) (d : Directed j
     lowered-shaped r q v = go v
       where
         own-grid : Gridded J false G (endAt s)
-        own-grid = directed-gridded fenced (j .n) m 0 pairs small (endAt s) (sits (laid-above j (fence (pick fenced 3 0) 0) s w q))
+        own-grid = directed-gridded fenced (j .n) m 0 pairs small (endAt s) (sits (laid-above j (fenceOf (pick fenced 3 0) 0) s w q))
 
         go : Lowered s r → Shaped J r
         go (reached z form v) = worked z form (record { steps = G; end = endAt s; gridded = own-grid; shows = shows-same G (stepsAt s) own (endAt s) r v })
         go (unreached z o) = beyond-shaped own-grid r z (beyond-same G (stepsAt s) own (endAt s) o)
 
-  pub directed-shaped : (r : Shape) → Chosen j (fence (pick fenced 3 0) 0) r → Shaped J r
-  directed-shaped r (sunk w q) = sunk-shaped r q (laid-below j (fence (pick fenced 3 0) 0) r w q)
+  pub directed-shaped : (r : Shape) → Chosen j (fenceOf (pick fenced 3 0) 0) r → Shaped J r
+  directed-shaped r (sunk w q) = sunk-shaped r q (laid-below j (fenceOf (pick fenced 3 0) 0) r w q)
   directed-shaped r (lowered s w q l) = lowered-shaped s w r q l
 
 -- ---- by what a held job stands for
 
-pub fence-fenced : (t : Bool) → Fenced (fence (pick t 3 0) 0)
+pub fence-fenced : (t : Bool) → Fenced (fenceOf (pick t 3 0) 0)
 fence-fenced t = record { no-roof = refl; slope-le = low t; start-le = omega arith }
   where
     low : (t : Bool) → pick t 3 0 ≤ 3
@@ -221,7 +221,7 @@ stands-ranged st q = go (directed-of st q)
     go (as-directed fenced e d) = ranged d
 
 -- family 7 has the fence of slope 3, family 6 none
-pub shaped-by : (j : Job) (s : Shape) → paired (j .family) ≡ true → {f : Wall} → f ≡ fence (pick (fenced (j .family)) 3 0) 0 → Chosen j f s → ShapedFor j s
+pub shaped-by : (j : Job) (s : Shape) → paired (j .family) ≡ true → {f : Wall} → f ≡ fenceOf (pick (fenced (j .family)) 3 0) 0 → Chosen j f s → ShapedFor j s
 shaped-by j s q o w J st = go J (directed-of st q)
   where
     seven : (t : Bool) → fenced (pick t 7 6) ≡ t
@@ -231,4 +231,4 @@ shaped-by j s q o w J st = go J (directed-of st q)
     go : (J : rules.Job) → AsDirected j J → Shaped J s
     go _ (as-directed t {m} {pairs} e d) =
         let k : fenced (j .family) ≡ t = ap fenced e ∙ seven t in
-        directed-shaped j t m pairs d s (subst (λ (v : Wall). Chosen j v s) (o ∙ ap (λ (t : Bool). fence (pick t 3 0) 0) k) w)
+        directed-shaped j t m pairs d s (subst (λ (v : Wall). Chosen j v s) (o ∙ ap (λ (t : Bool). fenceOf (pick t 3 0) 0) k) w)

@@ -27,7 +27,7 @@ use borrow.Author.Count.{below-more}
 use borrow.Author.Tests.{le-leb, lt-leb}
 use Rattle.howmany.proofs.Choices.{holds}
 use Rattle.tables.specs.declared.Wall.{Wall}
-use Rattle.tables.specs.Form.{wall, fence, unwalled, Slight}
+use Rattle.tables.specs.Form.{wall, fenceOf, unwalled, Slight}
 use Rattle.tables.specs.Shapes.{Fenced}
 use Rattle.tables.specs.Heights.{Turned}
 use Rattle.tables.specs.Table.{Fence, From, Roof, To, Spans}
@@ -88,9 +88,9 @@ fence-slid g s d x y = go (decLe d g)
         let h : (d - g) * x + g * x ≡ d * x = sym (add-mul (d - g) g x) ∙ ap (λ (n : ℕ). n * x) k in
         rw e (le-leb (0 * x) (y + s) (omega arith) ∙ sym (le-leb (g * x) (y + d * x + s) (omega arith)))
 
-pub wall-slid : (f : Wall) (d : ℕ) → f .roof ≡ false → Turned false f d (fence (f .slope - d) (f .start))
+pub wall-slid : (f : Wall) (d : ℕ) → f .roof ≡ false → Turned false f d (fenceOf (f .slope - d) (f .start))
 wall-slid f d e x y =
-    fence-is (fence (f .slope - d) (f .start)) x y refl ∙ fence-slid (f .slope) (f .start) d x y ∙ sym (fence-is f x (y + d * x) e)
+    fence-is (fenceOf (f .slope - d) (f .start)) x y refl ∙ fence-slid (f .slope) (f .start) d x y ∙ sym (fence-is f x (y + d * x) e)
 
 fence-turned : (g s u v y : ℕ) → g + u ≡ v → y ≤ v → leb y (g + s) ≡ leb u (v - y + s)
 fence-turned g s u v y e l =
@@ -115,7 +115,7 @@ module _ {f : Wall} (w : Fenced f) where
   pub fenced-slight : Slight f
   fenced-slight = record { slope-le = omega (arith, w .slope-le); start-le = w .start-le }
 
-  pub slid-slight : (d : ℕ) → Slight (fence (f .slope - d) (f .start))
+  pub slid-slight : (d : ℕ) → Slight (fenceOf (f .slope - d) (f .start))
   slid-slight d = record { slope-le = omega (arith, w .slope-le); start-le = w .start-le }
 
   pub mirrored-slight : (d : ℕ) → d ≤ 6 → Slight (record { roof = true; slope = d - f .slope; start = f .start })
@@ -154,11 +154,11 @@ module _ (f : Wall) (x : ℕ) where
 pub sixth-of : (hi slope x : ℕ) → slope * 6 ≡ hi → hi * x ≡ 6 * (slope * x)
 sixth-of hi slope x e = rw (← e) (ap (λ (z : ℕ). z * x) (mul-comm slope 6) ∙ mul-assoc 6 slope x)
 
-module _ {f : Wall} {hi ex ey x fence : ℕ} (w : Fence f x fence) (reach : ℕ) (l : 6 * reach ≤ hi * (ex - x)) where
-  pub from-fence : ey ≤ fence + reach → From f hi ex ey x fence
+module _ {f : Wall} {hi ex ey x fenceOf : ℕ} (w : Fence f x fenceOf) (reach : ℕ) (l : 6 * reach ≤ hi * (ex - x)) where
+  pub from-fence : ey ≤ fenceOf + reach → From f hi ex ey x fenceOf
   from-fence h = record { inside = w .inside; ends = omega arith; least = λ y k e t. w .least y k t }
 
-  pub from-end : hi * (ex - x) < 6 * reach + 6 → fence + reach < ey → From f hi ex ey x (ey - reach)
+  pub from-end : hi * (ex - x) < 6 * reach + 6 → fenceOf + reach < ey → From f hi ex ey x (ey - reach)
   from-end k h = record { inside = λ e. omega (arith, w .inside e); ends = omega arith; least = λ y m e t. omega arith }
 
 module _ {f : Wall} {hi ey x high reach : ℕ} (w : Roof f x high reach) where

@@ -31,7 +31,7 @@ use Rattle.rules.specs.Words.{wordOf}
 use Rattle.rules.specs.Counts.{countOf}
 use Rattle.rules.specs.Numbers as numbers
 use Rattle.rules.proofs.Letters.{map-reverse}
-use Rattle.letters.specs.Letters.{placeOf, glyphOf}
+use Rattle.letters.specs.Letters.{letterOf, glyphOf}
 use Rattle.tables.specs.Form.{walksTo}
 use Rattle.tables.specs.Edges as edges
 use Rattle.tables.specs.Shapes.{stepsAt, endAt, Shows}
@@ -111,7 +111,7 @@ module _ {J : rules.Job} {lettered : Bool} {G : Steps} {q : Spot} (g : Gridded J
 
   -- a byte's place, the code's and the job's
   abbrev byte : ℕ → ℕ
-  byte b = placeOf lettered b
+  byte b = letterOf lettered b
 
   abbrev step : ℕ → ℕ
   step b = place b (stepsOf J)
@@ -151,8 +151,8 @@ module _ {J : rules.Job} {lettered : Bool} {G : Steps} {q : Spot} (g : Gridded J
       rank-carried (grid H) (grid G) (w .At) (w .carries) shape-lawful job-lawful (reverse (map byte e)) end-there end (w .led) h
       ∙ rw (map-reverse byte e, g .numbers e t, map-reverse step e) (rank-map (grid G) byte step (g .places) job-lawful (reverse e) end d)
 
-  pub shape-spells : (n : ℕ) → n < countOf J → edges.walkOf lettered (s .k) (s .wall) (s .sa) (s .sc) (s .ex) (s .ey) n ≡ numbers.edgeOf J n
-  unfolding edges.walkOf paths
+  pub shape-spells : (n : ℕ) → n < countOf J → edges.walkAt lettered (s .k) (s .wall) (s .sa) (s .sc) (s .ex) (s .ey) n ≡ numbers.edgeOf J n
+  unfolding edges.walkAt paths
   shape-spells n l =
       let h : n < paths G q = rw (g .counts) at l in
       let c : n < count (grid H) end-there = rw same-count h in

@@ -1,10 +1,10 @@
 -- Edges over the grid, from their end backwards: whether one is valid, its number, and the edge of a number. Cited from the
--- backward-order theorem, whose reader is `grid` and whose words are `wordOf`.
+-- backward-order theorem, whose reader is `grid` and whose words are `lettersBack`.
 --
 --   walkEnd        the end (x, y), if the wall allows it
 --   isWalk       whether the bytes e are an edge to (x, y)
 --   walkNumber     its number (001, algorithm 7)
---   walkOf       the edge of the number r, as bytes (001, algorithm 8)
+--   walkAt       the edge of the number r, as bytes (001, algorithm 8)
 --   broughtAt    what step i brings to cell p: what stands as far back as off says, and the first zero where that is before the table
 --   Summed       what the first n steps bring to it can be read, and all of it fits
 --   Reads        the same of all steps, where p is the cell of (x, y)
@@ -20,20 +20,20 @@ use Rattle.backward.specs.Reader.{valid, rank, unrank}
 use Rattle.backward.specs.Walk.{enter}
 use Rattle.backward.specs.Grid.{Spot, grid, way}
 use Rattle.tables.specs.Form.{stepsIn, spot, via}
-use Rattle.letters.specs.Letters.{glyphOf, wordOf}
+use Rattle.letters.specs.Letters.{glyphOf, lettersBack}
 use Rattle.tables.specs.declared.Wall.{Wall}
 
 abbrev pub walkEnd : ℕ → Wall → List ℕ → List ℕ → ℕ → ℕ → Option Spot
 walkEnd k f sa sc x y = enter (grid (stepsIn k f sa sc)) (way (stepsIn k f sa sc)) (spot x y)
 
 unfoldable pub isWalk : Bool → ℕ → Wall → List ℕ → List ℕ → ℕ → ℕ → List ℕ → Bool
-isWalk lettered k f sa sc x y e = valid (grid (stepsIn k f sa sc)) (wordOf lettered e) (walkEnd k f sa sc x y)
+isWalk lettered k f sa sc x y e = valid (grid (stepsIn k f sa sc)) (lettersBack lettered e) (walkEnd k f sa sc x y)
 
 unfoldable pub walkNumber : Bool → ℕ → Wall → List ℕ → List ℕ → ℕ → ℕ → List ℕ → ℕ
-walkNumber lettered k f sa sc x y e = rank (grid (stepsIn k f sa sc)) (wordOf lettered e) (walkEnd k f sa sc x y)
+walkNumber lettered k f sa sc x y e = rank (grid (stepsIn k f sa sc)) (lettersBack lettered e) (walkEnd k f sa sc x y)
 
-unfoldable pub walkOf : Bool → ℕ → Wall → List ℕ → List ℕ → ℕ → ℕ → ℕ → List ℕ
-walkOf lettered k f sa sc x y r = map (glyphOf lettered) (reverse (unrank (grid (stepsIn k f sa sc)) (walkEnd k f sa sc x y) r))
+unfoldable pub walkAt : Bool → ℕ → Wall → List ℕ → List ℕ → ℕ → ℕ → ℕ → List ℕ
+walkAt lettered k f sa sc x y r = map (glyphOf lettered) (reverse (unrank (grid (stepsIn k f sa sc)) (walkEnd k f sa sc x y) r))
 
 abbrev pub broughtAt : List ℕ → List ℕ → ℕ → ℕ → ℕ
 broughtAt off val p i = getD val (p - getD off i 0) 0

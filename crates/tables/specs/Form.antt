@@ -24,11 +24,11 @@ use Rattle.tables.specs.declared.Wall.{Wall}
 unfoldable pub wall : Wall → ℕ → ℕ → Bool
 wall f x y = pick (f .roof) (leb y (f .slope * x + f .start)) (leb (f .slope * x) (y + f .start))
 
-abbrev pub fence : ℕ → ℕ → Wall
-fence g s = record { roof = false; slope = g; start = s }
+abbrev pub fenceOf : ℕ → ℕ → Wall
+fenceOf g s = record { roof = false; slope = g; start = s }
 
 abbrev pub unwalled : Wall
-unwalled = fence 0 0
+unwalled = fenceOf 0 0
 
 abbrev pub stepsIn : ℕ → Wall → List ℕ → List ℕ → Steps
 stepsIn k f sa sc = record { k = k; a = λ i. getD sa i 0; c = λ i. getD sc i 0; stays = wall f }

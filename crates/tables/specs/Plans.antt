@@ -33,7 +33,7 @@ use Rattle.tables.specs.declared.Shape.{Shape}
 use Rattle.tables.specs.Form.{Form, walksTo}
 use Rattle.tables.specs.Cells.{capOf, strideOf, place}
 use Rattle.tables.specs.Table.{Steepest, Deepest, Few, Sizes, Prepared, Spans, Table, Flagged, Small}
-use Rattle.tables.specs.Edges.{isWalk, walkNumber, walkOf}
+use Rattle.tables.specs.Edges.{isWalk, walkNumber, walkAt}
 use Rattle.tables.specs.Numbering.{tableRanks}
 use Rattle.tables.specs.Spelling.{edgesBy, edgesFor}
 
@@ -105,7 +105,7 @@ abbrev pub NumbersFor : Bool → Plan → List ℕ → List ℕ → List (List �
 NumbersFor lettered p sa sc es before after r = RankedAs (ranked (tableRanks lettered (p .k) (p .wall) sa sc (p .ex) (p .ey) es) before) r after
 
 abbrev pub edgeFor : Bool → Plan → List ℕ → List ℕ → ℕ → List ℕ
-edgeFor lettered p sa sc r = walkOf lettered (p .k) (p .wall) sa sc (p .ex) (p .ey) r
+edgeFor lettered p sa sc r = walkAt lettered (p .k) (p .wall) sa sc (p .ex) (p .ey) r
 
 abbrev pub ListsFor : Bool → Plan → List ℕ → List ℕ → List ℕ → List ℕ → List ℕ → List ℕ → List ℕ → ℕ → Type 0
 ListsFor lettered p sa sc ns steps ends after-steps after-ends at =

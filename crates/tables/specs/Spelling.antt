@@ -15,7 +15,7 @@ use Rattle.rules.specs.Refusals.Answer.{accepted}
 use Rattle.rules.specs.Answers.{most}
 use Rattle.rules.specs.Questions.{allBelow}
 use Rattle.tables.specs.Form.{walksTo}
-use Rattle.tables.specs.Edges.{walkOf}
+use Rattle.tables.specs.Edges.{walkAt}
 use Rattle.tables.specs.declared.Wall.{Wall}
 
 pub record Front (e old new : List ℕ) (n : ℕ) : Type 0 where
@@ -24,7 +24,7 @@ pub record Front (e old new : List ℕ) (n : ℕ) : Type 0 where
   pub short : n ≤ 128
 
 abbrev pub edgesBy : Bool → ℕ → Wall → List ℕ → List ℕ → ℕ → ℕ → List ℕ → List (List ℕ)
-edgesBy lettered k f sa sc ex ey ns = map (walkOf lettered k f sa sc ex ey) ns
+edgesBy lettered k f sa sc ex ey ns = map (walkAt lettered k f sa sc ex ey) ns
 
 abbrev pub edgesFor : Bool → ℕ → Wall → List ℕ → List ℕ → ℕ → ℕ → List ℕ → Answer (List (List ℕ))
 edgesFor lettered k f sa sc ex ey ns =

@@ -47,7 +47,7 @@ returns-5 : tie.Need-returns-5
 returns-5 c = sym (pairs (c .before .before) ∙ simp (le-leb _ _ (c .before .if4 .left), lt-leb _ _ (c .if5 .taken)))
 
 is-small-requires : tie.Need-is-small-requires
-is-small-requires c κs = record { twenty = c .before .before .before .before .before .before .before .before .before .before .before .pre; many = sym (c .before .before .wide .ensures); few = omega arith }
+is-small-requires c κs = record { whole = c .before .before .before .before .before .before .before .before .before .before .before .pre; many = sym (c .before .before .wide .ensures); few = omega arith }
 
 returns-6 : tie.Need-returns-6
 returns-6 c = c .is-small .ensures ∙ sym (pairs (c .before .before .before) ∙ simp (le-leb _ _ (c .before .before .if4 .left), le-leb _ _ (c .before .if5 .left)))

@@ -13,10 +13,10 @@ put-offsets-requires : tie.Need-put-offsets-requires
 put-offsets-requires c κs = search needs
 
 returns : tie.Need-returns
-returns c = pack-short _ _ _ _ (c .before .before .before .before .before .pre .twenty) (c .if1 .taken)
+returns c = pack-short _ _ _ _ (c .before .before .before .before .before .pre .whole) (c .if1 .taken)
 
 returns-2 : tie.Need-returns-2
-returns-2 c = pack-put (c .before .before .before .before .before .before .before .before .before .before .before .before .before .before .before .before .before .args .block .now) (c .before .before .before .before .before .before .before .before .before .before .before .before .before .before .before .before .before .args .ends .now) (c .before .before .before .before .before .before .before .before .before .before .before .before .before .before .before .before .before .args .steps .now) (c .before .before .before .before .before .before .before .before .before .before .before .before .before .before .before .before .before .args .out .now) _ _ _ _ _ (c .before .before .before .before .before .before .before .before .before .before .before .before .before .before .before .before .before .pre .twenty) refl refl (c .before .before .before .before .before .before .before .before .before .before .before .before .if1 .left) (c .before .before .before .before .before .before .before .before .before .before .put-front .ensures) (c .before .before .before .before .before .before .put-offsets .ensures) (c .before .before .put-bytes .ensures)
+returns-2 c = pack-put (c .before .before .before .before .before .before .before .before .before .before .before .before .before .before .before .before .before .args .block .now) (c .before .before .before .before .before .before .before .before .before .before .before .before .before .before .before .before .before .args .ends .now) (c .before .before .before .before .before .before .before .before .before .before .before .before .before .before .before .before .before .args .steps .now) (c .before .before .before .before .before .before .before .before .before .before .before .before .before .before .before .before .before .args .out .now) _ _ _ _ _ (c .before .before .before .before .before .before .before .before .before .before .before .before .before .before .before .before .before .pre .whole) refl refl (c .before .before .before .before .before .before .before .before .before .before .before .before .if1 .left) (c .before .before .before .before .before .before .before .before .before .before .put-front .ensures) (c .before .before .before .before .before .before .put-offsets .ensures) (c .before .before .put-bytes .ensures)
 
 pub put-pack-spec : {M : Type 1} → statement M
 put-pack-spec =

@@ -7,12 +7,12 @@ use native.Mathlib.Omega.{arith}
 use lib.ListN.{getD}
 use borrow.Author.Tests.{not-true, not-false}
 use Rattle.rows.specs.Plains.{isAcross}
-use Rattle.rows.proofs.PlainRows.{Led, led-start, led-out, led-end, Reading, reading-in, reading-back, reading-near, north-led, east-fits, east-led, no-step, across-left, across-fits, across-led}
+use Rattle.rows.proofs.PlainRows.{LedBack, led-start, led-out, led-end, Reading, reading-in, reading-back, reading-near, north-led, east-fits, east-led, no-step, across-left, across-fits, across-led}
 use Rattle.rows.proofs.numbering.read.Statement.{statement}
 use Rattle.rows.proofs.numbering.read.Tie as tie
 
 abbrev Inv-loop : tie.InvT-loop
-Inv-loop val c e north east acc₀ at₀ i₀ acc at i = Led c val e acc at i
+Inv-loop val c e north east acc₀ at₀ i₀ acc at i = LedBack c val e acc at i
 
 abbrev μ-loop : tie.MeasureT-loop
 μ-loop val c e north east acc₀ at₀ i₀ acc at i = i
