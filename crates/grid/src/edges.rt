@@ -12,7 +12,7 @@ ghost use Rattle.tables.specs.Filling.{Legible, BySteps};
 use crate::plan::end_of;
 use crate::plan::start_of;
 use job::Step;
-use letters::letter_of;
+use letters::ordinal_of;
 use lines::Rank;
 use tables::Plan;
 
@@ -62,7 +62,7 @@ pub(crate) fn read(val: &[u64], off: &[usize; 8], p: Plan, e: &[u8]) -> Rank
     }
     while 0 < i {
         i -= 1;
-        let l = letter_of(false, e[i]);
+        let l = ordinal_of(false, e[i]);
         if p.k <= l {
             return Rank::NoEdge;
         }

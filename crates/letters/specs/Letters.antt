@@ -1,6 +1,6 @@
 -- The letters of an edge as bytes. Families 1 to 5 write N E D; families 6 and 7 write the digits 1 to 8.
 --
---   letterOf lettered b    which step the byte b stands for; 8 where it is no letter
+--   ordinalOf lettered b    which step the byte b stands for; 8 where it is no letter
 --   glyphOf lettered i    the byte of step i
 --   lettersBack lettered e     the edge e as steps, its last letter first
 use mathlib.Core.Bool.{Bool, true, false}
@@ -10,9 +10,9 @@ use lib.Dec.{ltb, eqb}
 use Rattle.howmany.specs.Choose.{pick}
 
 -- "`N` before `E` before `D`; digits by value"
-unfoldable pub letterOf : Bool → ℕ → ℕ
-letterOf true b = pick (eqb b 78) 0 (pick (eqb b 69) 1 (pick (eqb b 68) 2 8))
-letterOf false b = pick (ltb b 49) 8 (pick (ltb 56 b) 8 (b - 49))
+unfoldable pub ordinalOf : Bool → ℕ → ℕ
+ordinalOf true b = pick (eqb b 78) 0 (pick (eqb b 69) 1 (pick (eqb b 68) 2 8))
+ordinalOf false b = pick (ltb b 49) 8 (pick (ltb 56 b) 8 (b - 49))
 
 unfoldable pub glyphOf : Bool → ℕ → ℕ
 glyphOf true i = pick (eqb i 0) 78 (pick (eqb i 1) 69 68)
@@ -20,4 +20,4 @@ glyphOf false i = i + 49
 
 -- "Compare two edges from their last steps backwards"
 abbrev pub lettersBack : Bool → List ℕ → List ℕ
-lettersBack lettered e = reverse (map (letterOf lettered) e)
+lettersBack lettered e = reverse (map (ordinalOf lettered) e)

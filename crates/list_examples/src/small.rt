@@ -3,8 +3,8 @@ use crate::blocks;
 use crate::say;
 
 fn letter(b: u8) {
-    say::size(letters::letter_of(true, b));
-    say::size(letters::letter_of(false, b));
+    say::size(letters::ordinal_of(true, b));
+    say::size(letters::ordinal_of(false, b));
 }
 
 fn letters_of() {

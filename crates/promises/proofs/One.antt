@@ -7,7 +7,7 @@
 --   ranked-one, numbering-one               `number_all`, likewise: the answer and the numbers
 --   walked-one, checked-one                 `walks::walk` and `walk_all`
 --   equal-one                               a contract that is an equation: `Job::of`, `job::family_of`, `job::is_plain`, `is_square`, `is_paired`, `is_fenced`,
---                                           `letters::letter_of`, `lines::has_room`, `lines::all_below`, `pack::edge_refusal`, `questions::earlier_refusal`
+--                                           `letters::ordinal_of`, `lines::has_room`, `lines::all_below`, `pack::edge_refusal`, `questions::earlier_refusal`
 --   which-one, dips-one, parted-one, repeats-one    `questions::compare` and `dip`, `pack::part` and `repeat`
 --   Alike, part-one, edge-one, handed-one   what is handed back: `lines::part`, `pack::edge` and `questions::earlier` point to one place, and hold the same bytes
 --   seen-one, seen-write-one, seen-dip-one, seen-second-one, seen-part-one, seen-repeat-one    the calls for C: the result and every lent byte

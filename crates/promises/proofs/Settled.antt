@@ -85,9 +85,9 @@ pub lines-part-one : (bytes : RefT (List ℕ)) (from : ℕ) (to : ℕ) (r s : Re
     → Alike r s
 lines-part-one bytes from to r s p q = part-one _ _ _ r s p q
 
-pub letters-letter-of-one : (lettered : Bool) (b : ℕ) (r s : ℕ) → letters.LetterOfMeets lettered b r → letters.LetterOfMeets lettered b s
+pub letters-ordinal-of-one : (lettered : Bool) (b : ℕ) (r s : ℕ) → letters.OrdinalOfMeets lettered b r → letters.OrdinalOfMeets lettered b s
     → r ≡ s
-letters-letter-of-one lettered b r s p q = equal-one _ r s p q
+letters-ordinal-of-one lettered b r s p q = equal-one _ r s p q
 
 pub walks-walk-one : (block : List ℕ) (edge : List ℕ) (r s : Walked) → walks.WalkMeets block edge r → walks.WalkMeets block edge s
     → r ≡ s

@@ -25,7 +25,7 @@ use Rattle.howmany.specs.Sum.{sum}
 use Rattle.howmany.proofs.Sums.{sum-mono}
 use Rattle.howmany.proofs.Choices.{is-true, holds, and-left, and-right}
 use Rattle.lines.specs.declared.Rank.the-variants.{At, NoEdge}
-use Rattle.letters.specs.Letters.{letterOf, glyphOf}
+use Rattle.letters.specs.Letters.{ordinalOf, glyphOf}
 use Rattle.letters.proofs.Glyphs.{place-n, place-e, place-d, place-no, glyph-n, glyph-e, glyph-d}
 use Rattle.rows.specs.declared.plain.Plain.{Plain}
 use Rattle.tables.specs.Form.{wall, via}
@@ -249,7 +249,7 @@ module _ {c : Plain} {val e : List ℕ} {acc cell i n o : ℕ} (t : Reading c va
   said l k ev = ev ∙ sym (reads-sum (walking-reads walking) l k)
 
   -- a step back, with v more summed
-  next : (l : ℕ) → l ≡ letterOf true (getD e (i - 1) 0) → l < plainPlan c .k → {b v s : ℕ} → b ≡ getD (plainBack c) l 0
+  next : (l : ℕ) → l ≡ ordinalOf true (getD e (i - 1) 0) → l < plainPlan c .k → {b v s : ℕ} → b ≡ getD (plainBack c) l 0
       → v ≡ sum (steps-via c x y) l → s ≡ acc + v → LedBack c val e s (cell - b) (i - 1)
   next l q k eb ev es = record {
     full = walking .full;
@@ -295,7 +295,7 @@ module _ {c : Plain} {val e : List ℕ} {acc cell i n o : ℕ} (t : Reading c va
         d : c .diagonal ≡ true
         d = is-true (c .diagonal) (and-right (eqb (getD e (i - 1) 0) 68) (c .diagonal) (holds is))
 
-        letter : 2 ≡ letterOf true (getD e (i - 1) 0)
+        letter : 2 ≡ ordinalOf true (getD e (i - 1) 0)
         letter = place-d true _ refl a m (eqb→eq (getD e (i - 1) 0) 68 (and-left (eqb (getD e (i - 1) 0) 68) (c .diagonal) (holds is)))
 
         pub across-left : cell < n + o → PlainRank c e NoEdge

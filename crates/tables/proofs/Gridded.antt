@@ -24,7 +24,7 @@ use Rattle.rules.proofs.Shear.{northEastGrid, delannoyGrid, slopeGrid, Upright,
 use Rattle.rules.proofs.Sheared.{walks-word, number-word, edge-word}
 use Rattle.rules.proofs.Plains.{north-east-shear, delannoy-shear, north-east-counted, delannoy-counted}
 use Rattle.rules.proofs.Slopes.{digit-at, digit-place, slope-shear, slope-counted}
-use Rattle.letters.specs.Letters.{letterOf, glyphOf}
+use Rattle.letters.specs.Letters.{ordinalOf, glyphOf}
 use Rattle.tables.specs.Gridded.{Agree, Gridded}
 use Rattle.tables.specs.Gridded.Agree.{same, both}
 
@@ -47,8 +47,8 @@ unfolding place numbered
 place-other d [] b f = refl
 place-other d (p ∷ ps) b f = rw (ne-eqb b d (λ e. omega (arith, f (omega arith)))) (ap suc (place-other (suc d) ps b (λ l. omega (arith, f (omega arith)))))
 
-digit-places : (ps : List Pair) (b : ℕ) → length ps ≤ 8 → Agree (length ps) (letterOf false b) (place b (numbered one ps))
-unfolding letterOf
+digit-places : (ps : List Pair) (b : ℕ) → length ps ≤ 8 → Agree (length ps) (ordinalOf false b) (place b (numbered one ps))
+unfolding ordinalOf
 digit-places ps b few = go (decLt b 49) (decLt 56 b) (decLt (b - 49) (length ps))
   where
     none-there : (one ≤ b → one + length ps ≤ b) → length ps ≤ place b (numbered one ps)
@@ -68,7 +68,7 @@ plain-x : (n m : ℕ) (q : Spot) → Upright (record { x = n; y = pos m }) q →
 plain-x n m q c = let e : m ≡ q .y = cc in omega (arith, c .across)
 
 pub north-east-gridded : (n m : ℕ) (q : Spot) → Upright (endOf (north-east n m)) q → Gridded (north-east n m) true northEastGrid q
-unfolding letterOf place glyphOf numberOf edgeOf countOf
+unfolding ordinalOf place glyphOf numberOf edgeOf countOf
 north-east-gridded n m q s =
     let J = north-east n m in
     let H = north-east-shear n m in
@@ -84,7 +84,7 @@ north-east-gridded n m q s =
     }
 
 pub delannoy-gridded : (n m : ℕ) (q : Spot) → Upright (endOf (delannoy n m)) q → Gridded (delannoy n m) true delannoyGrid q
-unfolding letterOf place glyphOf numberOf edgeOf countOf
+unfolding ordinalOf place glyphOf numberOf edgeOf countOf
 delannoy-gridded n m q s =
     let J = delannoy n m in
     let H = delannoy-shear n m in

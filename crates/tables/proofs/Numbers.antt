@@ -29,7 +29,7 @@ use Rattle.backward.specs.Grid.{grid, paths}
 use Rattle.backward.proofs.Backward.{rank-below}
 use Rattle.backward.proofs.Grids.{back-count, grid-lawful}
 use Rattle.tables.specs.Form.{wall, stepsIn, spot, walksTo, via}
-use Rattle.letters.specs.Letters.{letterOf}
+use Rattle.letters.specs.Letters.{ordinalOf}
 use Rattle.tables.specs.Cells.{capOf, cellAt, place}
 use Rattle.tables.specs.declared.Plan as plans
 use Rattle.tables.specs.Table.{Ends, Cells}
@@ -63,28 +63,28 @@ unfolding via
 brought k f sa sc pos x y j = back-count (stepsIn k f sa sc) (onward k f sa sc pos) (spot x y) j
 
 unfoldable pub num : Bool → ℕ → Wall → List ℕ → List ℕ → List ℕ → ℕ → ℕ → ℕ → ℕ
-num lettered k f sa sc e i x y = rank (grid (stepsIn k f sa sc)) (wordTo (letterOf lettered) e i) (walkEnd k f sa sc x y)
+num lettered k f sa sc e i x y = rank (grid (stepsIn k f sa sc)) (wordTo (ordinalOf lettered) e i) (walkEnd k f sa sc x y)
 
 module _ (lettered : Bool) (k : ℕ) (f : Wall) (sa sc e : List ℕ) where
   pub num-all : (x y : ℕ) → num lettered k f sa sc e (length e) x y ≡ walkNumber lettered k f sa sc x y e
   unfolding num walkNumber
-  num-all x y = ap (λ (w : List ℕ). rank (grid (stepsIn k f sa sc)) w (walkEnd k f sa sc x y)) (word-all (letterOf lettered) e)
+  num-all x y = ap (λ (w : List ℕ). rank (grid (stepsIn k f sa sc)) w (walkEnd k f sa sc x y)) (word-all (ordinalOf lettered) e)
 
   pub num-none : (i x y : ℕ) → i ≤ 0 → num lettered k f sa sc e i x y ≡ 0
   unfolding num rank
-  num-none i x y h = ap (λ (w : List ℕ). rank (grid (stepsIn k f sa sc)) w (walkEnd k f sa sc x y)) (word-none (letterOf lettered) e i h)
+  num-none i x y h = ap (λ (w : List ℕ). rank (grid (stepsIn k f sa sc)) w (walkEnd k f sa sc x y)) (word-none (ordinalOf lettered) e i h)
 
   module _ (pos : (i : ℕ) → i < k → 1 ≤ getD sa i 0) where
-    pub num-step : (i x y l : ℕ) → 0 < i → l ≡ letterOf lettered (getD e (i - 1) 0) → T (wall f x y) → getD sa l 0 ≤ x → getD sc l 0 ≤ y
+    pub num-step : (i x y l : ℕ) → 0 < i → l ≡ ordinalOf lettered (getD e (i - 1) 0) → T (wall f x y) → getD sa l 0 ≤ x → getD sc l 0 ≤ y
         → num lettered k f sa sc e i x y ≡ sum (via k f sa sc x y) l + num lettered k f sa sc e (i - 1) (x - getD sa l 0) (y - getD sc l 0)
     unfolding num rank
     num-step i x y l h q n a c =
-        ap (λ (w : List ℕ). rank (grid (stepsIn k f sa sc)) w (walkEnd k f sa sc x y)) (word-cons (letterOf lettered) e i l h q)
-        ∙ ap (rank (grid (stepsIn k f sa sc)) (l ∷ wordTo (letterOf lettered) e (i - 1))) (end-in k f sa sc x y n)
+        ap (λ (w : List ℕ). rank (grid (stepsIn k f sa sc)) w (walkEnd k f sa sc x y)) (word-cons (ordinalOf lettered) e i l h q)
+        ∙ ap (rank (grid (stepsIn k f sa sc)) (l ∷ wordTo (ordinalOf lettered) e (i - 1))) (end-in k f sa sc x y n)
         ∙ omega (
           arith,
           sum-cong (λ j. count (grid (stepsIn k f sa sc)) (grid (stepsIn k f sa sc) .back (spot x y) j)) (via k f sa sc x y) l (λ j _. brought k f sa sc pos x y j),
-          ap (rank (grid (stepsIn k f sa sc)) (wordTo (letterOf lettered) e (i - 1))) (back-is k f sa sc x y l a c),
+          ap (rank (grid (stepsIn k f sa sc)) (wordTo (ordinalOf lettered) e (i - 1))) (back-is k f sa sc x y l a c),
         )
 
 -- ---- a filled table
@@ -184,7 +184,7 @@ unfolding ok walksTo paths
 barren lettered k f sa sc pos e i x y z =
     let G = stepsIn k f sa sc in
     is-false (ok lettered k f sa sc e i x y)
-    (λ t. omega (arith, z, rank-below (grid G) (grid-lawful G (onward k f sa sc pos)) (wordTo (letterOf lettered) e i) (walkEnd k f sa sc x y) t))
+    (λ t. omega (arith, z, rank-below (grid G) (grid-lawful G (onward k f sa sc pos)) (wordTo (ordinalOf lettered) e i) (walkEnd k f sa sc x y) t))
 
 -- ---- the loop of `read`: the letters from i on led back from the end to some (x, y), whose cell it is. What they stand for and all walks to
 -- (x, y) are no more than the walks to the end, so that the sum fits, be the bytes an edge or not
@@ -250,7 +250,7 @@ module _ {lettered : Bool} {p : plans.Plan} {sa sc off val e : List ℕ} where
     pub walking-fits : (l : ℕ) → l ≤ p .k → {v : ℕ} → v ≡ sum (broughtAt off val cell) l → acc + v < 2 ^ 64
     walking-fits l b ev = omega (arith, reads-sum walking-reads l b, sum-mono each l (p .k) b, all-le (w .full) (w .stand) (w .inside), w .under, w .full .fits)
 
-    module _ (h : 0 < i) {l : ℕ} (q : l ≡ letterOf lettered (getD e (i - 1) 0)) where
+    module _ (h : 0 < i) {l : ℕ} (q : l ≡ ordinalOf lettered (getD e (i - 1) 0)) where
       pub not-letter : p .k ≤ l → RankFor lettered p sa sc e NoEdge
       not-letter o = no-edge (ok-no-letter lettered (p .k) (p .wall) sa sc e pos i x y l h q (w .inside) o)
 

@@ -24,7 +24,7 @@ use Rattle.backward.specs.Reader.{valid}
 use Rattle.backward.specs.Grid.{grid}
 use Rattle.backward.proofs.Backward.{valid-stop, valid-no-letter}
 use Rattle.tables.specs.Form.{wall, stepsIn, spot}
-use Rattle.letters.specs.Letters.{letterOf}
+use Rattle.letters.specs.Letters.{ordinalOf}
 use Rattle.tables.specs.Edges.{walkEnd, isWalk}
 use Rattle.tables.proofs.Walls.{wall-start}
 use Rattle.tables.specs.declared.Wall.{Wall}
@@ -73,7 +73,7 @@ end-in k f sa sc x y h = only-true (wall f x y) (spot x y) h
 -- ---- validity
 
 unfoldable pub ok : Bool → ℕ → Wall → List ℕ → List ℕ → List ℕ → ℕ → ℕ → ℕ → Bool
-ok lettered k f sa sc e i x y = valid (grid (stepsIn k f sa sc)) (wordTo (letterOf lettered) e i) (walkEnd k f sa sc x y)
+ok lettered k f sa sc e i x y = valid (grid (stepsIn k f sa sc)) (wordTo (ordinalOf lettered) e i) (walkEnd k f sa sc x y)
 
 -- a start that is allowed is the only word of no letters
 none-left : (k : ℕ) (f : Wall) (sa sc : List ℕ) (b : Bool) (x y : ℕ) → valid (grid (stepsIn k f sa sc)) [] (onlyIf b (spot x y)) ≡ b && (eqb x 0 && eqb y 0)
@@ -84,12 +84,12 @@ none-left k f sa sc false x y = refl
 module _ (lettered : Bool) (k : ℕ) (f : Wall) (sa sc e : List ℕ) where
   pub ok-all : (x y : ℕ) → ok lettered k f sa sc e (length e) x y ≡ isWalk lettered k f sa sc x y e
   unfolding ok isWalk
-  ok-all x y = ap (λ (w : List ℕ). valid (grid (stepsIn k f sa sc)) w (walkEnd k f sa sc x y)) (word-all (letterOf lettered) e)
+  ok-all x y = ap (λ (w : List ℕ). valid (grid (stepsIn k f sa sc)) w (walkEnd k f sa sc x y)) (word-all (ordinalOf lettered) e)
 
   module _ (i x y : ℕ) (h : i ≤ 0) where
     ok-none : ok lettered k f sa sc e i x y ≡ wall f x y && (eqb x 0 && eqb y 0)
     unfolding ok
-    ok-none = ap (λ (w : List ℕ). valid (grid (stepsIn k f sa sc)) w (walkEnd k f sa sc x y)) (word-none (letterOf lettered) e i h) ∙ none-left k f sa sc (wall f x y) x y
+    ok-none = ap (λ (w : List ℕ). valid (grid (stepsIn k f sa sc)) w (walkEnd k f sa sc x y)) (word-none (ordinalOf lettered) e i h) ∙ none-left k f sa sc (wall f x y) x y
 
     ok-far : (x ≤ 0 → ⊥) → ok lettered k f sa sc e i x y ≡ false
     ok-far n = ok-none ∙ rw (ne-eqb x 0 (λ q. n (omega arith))) (and-false (wall f x y))
@@ -107,25 +107,25 @@ module _ (lettered : Bool) (k : ℕ) (f : Wall) (sa sc e : List ℕ) where
           | no z ↦ ne-eqb (x + y) 0 (λ q. omega arith) ∙ sym (ok-far z)
         ]
 
-  module _ (pos : (i : ℕ) → i < k → 1 ≤ getD sa i 0) (i x y l : ℕ) (h : 0 < i) (q : l ≡ letterOf lettered (getD e (i - 1) 0)) where
-    ok-cons : ok lettered k f sa sc e i x y ≡ valid (grid (stepsIn k f sa sc)) (l ∷ wordTo (letterOf lettered) e (i - 1)) (walkEnd k f sa sc x y)
+  module _ (pos : (i : ℕ) → i < k → 1 ≤ getD sa i 0) (i x y l : ℕ) (h : 0 < i) (q : l ≡ ordinalOf lettered (getD e (i - 1) 0)) where
+    ok-cons : ok lettered k f sa sc e i x y ≡ valid (grid (stepsIn k f sa sc)) (l ∷ wordTo (ordinalOf lettered) e (i - 1)) (walkEnd k f sa sc x y)
     unfolding ok
-    ok-cons = ap (λ (w : List ℕ). valid (grid (stepsIn k f sa sc)) w (walkEnd k f sa sc x y)) (word-cons (letterOf lettered) e i l h q)
+    ok-cons = ap (λ (w : List ℕ). valid (grid (stepsIn k f sa sc)) w (walkEnd k f sa sc x y)) (word-cons (ordinalOf lettered) e i l h q)
 
     module _ (n : T (wall f x y)) where
-      ok-some : ok lettered k f sa sc e i x y ≡ valid (grid (stepsIn k f sa sc)) (l ∷ wordTo (letterOf lettered) e (i - 1)) (some (spot x y))
-      ok-some = ok-cons ∙ ap (valid (grid (stepsIn k f sa sc)) (l ∷ wordTo (letterOf lettered) e (i - 1))) (end-in k f sa sc x y n)
+      ok-some : ok lettered k f sa sc e i x y ≡ valid (grid (stepsIn k f sa sc)) (l ∷ wordTo (ordinalOf lettered) e (i - 1)) (some (spot x y))
+      ok-some = ok-cons ∙ ap (valid (grid (stepsIn k f sa sc)) (l ∷ wordTo (ordinalOf lettered) e (i - 1))) (end-in k f sa sc x y n)
 
       pub ok-no-letter : k ≤ l → ok lettered k f sa sc e i x y ≡ false
-      ok-no-letter o = ok-some ∙ valid-no-letter (grid (stepsIn k f sa sc)) l (wordTo (letterOf lettered) e (i - 1)) (spot x y) o
+      ok-no-letter o = ok-some ∙ valid-no-letter (grid (stepsIn k f sa sc)) l (wordTo (ordinalOf lettered) e (i - 1)) (spot x y) o
 
       pub ok-left : x < getD sa l 0 → ok lettered k f sa sc e i x y ≡ false
-      ok-left o = ok-some ∙ valid-stop (grid (stepsIn k f sa sc)) l (wordTo (letterOf lettered) e (i - 1)) (spot x y) (back-left k f sa sc x y l o)
+      ok-left o = ok-some ∙ valid-stop (grid (stepsIn k f sa sc)) l (wordTo (ordinalOf lettered) e (i - 1)) (spot x y) (back-left k f sa sc x y l o)
 
       pub ok-under : getD sa l 0 ≤ x → y < getD sc l 0 → ok lettered k f sa sc e i x y ≡ false
-      ok-under a o = ok-some ∙ valid-stop (grid (stepsIn k f sa sc)) l (wordTo (letterOf lettered) e (i - 1)) (spot x y) (back-under k f sa sc x y l a o)
+      ok-under a o = ok-some ∙ valid-stop (grid (stepsIn k f sa sc)) l (wordTo (ordinalOf lettered) e (i - 1)) (spot x y) (back-under k f sa sc x y l a o)
 
       pub ok-step : l < k → getD sa l 0 ≤ x → getD sc l 0 ≤ y → ok lettered k f sa sc e i x y ≡ ok lettered k f sa sc e (i - 1) (x - getD sa l 0) (y - getD sc l 0)
       unfolding ok valid
       ok-step b a c =
-          ok-some ∙ ap₂ _&&_ (is-true (ltb l k) (lt→ltb l k b)) (ap (valid (grid (stepsIn k f sa sc)) (wordTo (letterOf lettered) e (i - 1))) (back-is k f sa sc x y l a c))
+          ok-some ∙ ap₂ _&&_ (is-true (ltb l k) (lt→ltb l k b)) (ap (valid (grid (stepsIn k f sa sc)) (wordTo (ordinalOf lettered) e (i - 1))) (back-is k f sa sc x y l a c))

@@ -31,7 +31,7 @@ use Rattle.rules.specs.Words.{wordOf}
 use Rattle.rules.specs.Counts.{countOf}
 use Rattle.rules.specs.Numbers as numbers
 use Rattle.rules.proofs.Letters.{map-reverse}
-use Rattle.letters.specs.Letters.{letterOf, glyphOf}
+use Rattle.letters.specs.Letters.{ordinalOf, glyphOf}
 use Rattle.tables.specs.Form.{walksTo}
 use Rattle.tables.specs.Edges as edges
 use Rattle.tables.specs.Shapes.{stepsAt, endAt, Shows}
@@ -111,7 +111,7 @@ module _ {J : rules.Job} {lettered : Bool} {G : Steps} {q : Spot} (g : Gridded J
 
   -- a byte's place, the code's and the job's
   abbrev byte : ℕ → ℕ
-  byte b = letterOf lettered b
+  byte b = ordinalOf lettered b
 
   abbrev step : ℕ → ℕ
   step b = place b (stepsOf J)

@@ -17,7 +17,7 @@ use Rattle.rules.specs.Valid.{place, at, isEdge}
 use Rattle.rules.specs.Words.{wordOf, spelt}
 use Rattle.rules.specs.Counts.{countOf}
 use Rattle.rules.specs.Numbers.{numberOf, edgeOf}
-use Rattle.letters.specs.Letters.{letterOf, glyphOf}
+use Rattle.letters.specs.Letters.{ordinalOf, glyphOf}
 
 pub data Agree (k x y : ℕ) : Type 0 where
   same : x ≡ y → Agree k x y
@@ -27,7 +27,7 @@ abbrev pub entered : Steps → Spot → Option Spot
 entered G q = enter (grid G) (way G) q
 
 pub record Gridded (J : Job) (lettered : Bool) (G : Steps) (q : Spot) : Type 0 where
-  pub places : (b : ℕ) → Agree (G .k) (letterOf lettered b) (place b (stepsOf J))
+  pub places : (b : ℕ) → Agree (G .k) (ordinalOf lettered b) (place b (stepsOf J))
   pub glyphs : (i : ℕ) → i < G .k → glyphOf lettered i ≡ at (stepsOf J) i .letter
   pub onward : Onward G
   pub walks : (e : List ℕ) → isEdge J e ≡ valid (grid G) (wordOf J e) (entered G q)

@@ -18,7 +18,7 @@ pub(crate) enum Stop {
 fn letter_of(lettered: bool, k: usize, b: u8) -> usize
     ensures { λ r. ⌜ r ≡ letterOf lettered k b ⌝ }
 {
-    let place = letters::place_of(lettered, b);
+    let place = letters::ordinal_of(lettered, b);
     if place < k {
         return place;
     }

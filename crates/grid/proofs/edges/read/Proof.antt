@@ -30,14 +30,14 @@ loop-holds c = record { some = c .before .before .before .before .before .pre; a
 sub-i : tie.Need-sub-i Inv-loop μ-loop
 sub-i c = c .loop-test .taken
 
-shared-slice-read-letter-of : tie.Need-shared-slice-read-letter-of Inv-loop μ-loop
-shared-slice-read-letter-of c = omega (arith, one (c .before .before .loop .inv) .i-le)
+shared-slice-read-ordinal-of : tie.Need-shared-slice-read-ordinal-of Inv-loop μ-loop
+shared-slice-read-ordinal-of c = omega (arith, one (c .before .before .loop .inv) .i-le)
 
-letter-of-requires : tie.Need-letter-of-requires Inv-loop μ-loop
-letter-of-requires c κs = tt
+ordinal-of-requires : tie.Need-ordinal-of-requires Inv-loop μ-loop
+ordinal-of-requires c κs = tt
 
 returns-2 : tie.Need-returns-2 Inv-loop μ-loop
-returns-2 c = λ sa sc fu. not-letter (c .before .before .before .before .before .loop .inv .all sa sc fu) (c .before .before .before .before .loop-test .taken) (c .before .before .letter-of .ensures) (c .if2 .taken)
+returns-2 c = λ sa sc fu. not-letter (c .before .before .before .before .before .loop .inv .all sa sc fu) (c .before .before .before .before .loop-test .taken) (c .before .before .ordinal-of .ensures) (c .if2 .taken)
 
 back-requires : tie.Need-back-requires Inv-loop μ-loop
 back-requires c κs = omega (arith, one (c .before .before .before .before .before .loop .inv) .full .ready .slopes .most)
@@ -49,7 +49,7 @@ shared-slice-read-if3 : tie.Need-shared-slice-read-if3 Inv-loop μ-loop
 shared-slice-read-if3 c = omega (arith, walking-reads (one (c .before .before .before .before .before .before .before .loop .inv)) .inside)
 
 returns-3 : tie.Need-returns-3 Inv-loop μ-loop
-returns-3 c = λ sa sc fu. not-back (c .before .before .before .before .before .before .before .before .loop .inv .all sa sc fu) (c .before .before .before .before .before .before .before .loop-test .taken) (c .before .before .before .before .before .letter-of .ensures) (c .before .before .before .if2 .left) (c .before .before .back .ensures) (c .if3 .taken)
+returns-3 c = λ sa sc fu. not-back (c .before .before .before .before .before .before .before .before .loop .inv .all sa sc fu) (c .before .before .before .before .before .before .before .loop-test .taken) (c .before .before .before .before .before .ordinal-of .ensures) (c .before .before .before .if2 .left) (c .before .before .back .ensures) (c .if3 .taken)
 
 part-sum-requires : tie.Need-part-sum-requires Inv-loop μ-loop
 part-sum-requires c κs = reads-summed (walking-reads (one (c .before .before .before .before .before .before .before .before .loop .inv))) _ (omega arith)
@@ -61,7 +61,7 @@ loop-less : tie.Need-loop-less Inv-loop μ-loop
 loop-less c = omega arith
 
 loop-again : tie.Need-loop-again Inv-loop μ-loop
-loop-again c = onto (c .before .before .before .before .before .before .before .before .before .loop .inv) (λ sa sc fu w. stepped w (c .before .before .before .before .before .before .before .before .loop-test .taken) (c .before .before .before .before .before .before .letter-of .ensures) (c .before .before .before .before .if2 .left) (c .before .before .before .back .ensures) (c .before .if3 .left) (c .part-sum .ensures))
+loop-again c = onto (c .before .before .before .before .before .before .before .before .before .loop .inv) (λ sa sc fu w. stepped w (c .before .before .before .before .before .before .before .before .loop-test .taken) (c .before .before .before .before .before .before .ordinal-of .ensures) (c .before .before .before .before .if2 .left) (c .before .before .before .back .ensures) (c .before .if3 .left) (c .part-sum .ensures))
 
 start-of-requires : tie.Need-start-of-requires Inv-loop μ-loop
 start-of-requires c κs = c .before .before .before .before .before .before .before .pre .readable .ready .sizes
@@ -84,8 +84,8 @@ read-spec =
     returns
     loop-holds
     sub-i
-    shared-slice-read-letter-of
-    letter-of-requires
+    shared-slice-read-ordinal-of
+    ordinal-of-requires
     returns-2
     back-requires
     mul-if3

@@ -4,16 +4,16 @@ use Rattle.walks.proofs.Pacing.{letter-capped, letter-none}
 use Rattle.walks.proofs.walking.letter_of.Statement.{statement}
 use Rattle.walks.proofs.walking.letter_of.Tie as tie
 
-place-of-requires : tie.Need-place-of-requires
-place-of-requires c κs = search needs
+ordinal-of-requires : tie.Need-ordinal-of-requires
+ordinal-of-requires c κs = search needs
 
 returns : tie.Need-returns
 returns c =
-    letter-capped _ _ _ _ (c .before .place-of .ensures) (c .if1 .taken)
+    letter-capped _ _ _ _ (c .before .ordinal-of .ensures) (c .if1 .taken)
 
 returns-2 : tie.Need-returns-2
 returns-2 c =
-    letter-none _ _ _ _ (c .before .place-of .ensures) (c .if1 .left)
+    letter-none _ _ _ _ (c .before .ordinal-of .ensures) (c .if1 .left)
 
 pub letter-of-spec : {M : Type 1} → statement M
-letter-of-spec = tie.close (tie.spec place-of-requires returns returns-2)
+letter-of-spec = tie.close (tie.spec ordinal-of-requires returns returns-2)

@@ -1,10 +1,10 @@
--- `letters::letter_of` meets its contract, branch by branch. Assumes nothing.
+-- `letters::ordinal_of` meets its contract, branch by branch. Assumes nothing.
 use mathlib.Core.Path.{ap, _∙_}
 use Prim.Native.Nat.{ℕ, _-_}
 use Rattle.letters.proofs.Glyphs.{place-n, place-e, place-d, place-no, place-low, place-high, place-digit}
 use borrow.Author.Needs.{needs}
-use Rattle.letters.proofs.letter_of.Statement.{statement}
-use Rattle.letters.proofs.letter_of.Tie as tie
+use Rattle.letters.proofs.ordinal_of.Statement.{statement}
+use Rattle.letters.proofs.ordinal_of.Tie as tie
 
 returns : tie.Need-returns
 returns c = place-n _ _ (c .before .if1 .taken) (c .if2 .taken)
@@ -36,8 +36,8 @@ sub-result c = search needs
 returns-7 : tie.Need-returns-7
 returns-7 c = ap (λ (z : ℕ). z - 49) (c .wide .ensures) ∙ place-digit _ _ (c .before .before .before .if1 .left) (c .before .before .if5 .left) (c .before .if6 .left)
 
-pub letter-of-spec : {M : Type 1} → statement M
-letter-of-spec =
+pub ordinal-of-spec : {M : Type 1} → statement M
+ordinal-of-spec =
     tie.close
     (tie.spec
     returns
