@@ -35,7 +35,7 @@ use Rattle.walks.specs.Paces.{letteredPaces, pacesOf, letterOf, keptBy, 
 abbrev capped : ℕ → ℕ → ℕ
 capped k l = pick (ltb l k) l k
 
-module _ (lettered : Bool) (k b l : ℕ) (e : l ≡ letters.placeOf lettered b) where
+module _ (lettered : Bool) (k b l : ℕ) (e : l ≡ letters.ordinalOf lettered b) where
   pub letter-capped : l < k → l ≡ letterOf lettered k b
   unfolding letterOf
   letter-capped h = rw (sym e, lt-ltb l k h) refl
@@ -47,7 +47,7 @@ module _ (lettered : Bool) (k b l : ℕ) (e : l ≡ letters.placeOf lettered b) 
 -- ---- families 1 to 5
 
 lettered-place : (k b : ℕ) → letterOf true k b ≡ capped k (pick (eqb b N) 0 (pick (eqb b E) 1 (pick (eqb b D) 2 8)))
-unfolding letterOf letters.placeOf
+unfolding letterOf letters.ordinalOf
 lettered-place k b = refl
 
 abbrev rights : ℕ → List ℕ
@@ -131,7 +131,7 @@ digit-none d (p ∷ ps) b (inl o) = rw (ne-eqb b d (λ e. omega arith)) (ap suc 
 digit-none d (p ∷ ps) b (inr o) = rw (ne-eqb b d (λ e. omega arith)) (ap suc (digit-none (suc d) ps b (inr (omega arith))))
 
 digits : (ps : List Pair) (b : ℕ) → length ps ≤ 8 → place b (numbered one ps) ≡ letterOf false (length ps) b
-unfolding letterOf letters.placeOf
+unfolding letterOf letters.ordinalOf
 digits ps b few = go (decLt b one) (decLt (b - one) (length ps)) (decLt 56 b)
   where
     go : Dec (b < one) → Dec (b - one < length ps) → Dec (56 < b) → place b (numbered one ps) ≡ capped (length ps) (pick (ltb b one) 8 (pick (ltb 56 b) 8 (b - one)))

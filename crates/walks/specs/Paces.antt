@@ -59,7 +59,7 @@ pacesOf j =
 -- "`1` to k, the first k pairs" in families 6 and 7
 unfoldable pub letterOf : Bool → ℕ → ℕ → ℕ
 letterOf lettered k b =
-    let place = letters.placeOf lettered b in
+    let place = letters.ordinalOf lettered b in
     pick (ltb place k) place k
 
 -- the column "Stays": y ≤ x in families 2, 4 and 5, y ≥ 0 in family 7
