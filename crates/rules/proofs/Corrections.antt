@@ -1,4 +1,5 @@
--- What document 01 corrects in source document 000, computed; and that algorithm 10's sum is wrong for every n, by M's recurrence.
+-- What document 01 corrects in source document 000, computed; and that M's sum with a term more is right for no n above 1, unless that term
+-- is nothing, by M's recurrence.
 -- Assumes nothing.
 --
 --   M-some         no M is 0
@@ -12,7 +13,7 @@ use Rattle.howmany.specs.Sum.{sum}
 use Rattle.arches.specs.Counts.{count, counts}
 use Rattle.arches.proofs.Counting.{count-zero, count-suc}
 use Rattle.rules.specs.Counts.{L, Dl, M}
-use Rattle.rules.specs.Corrections.{Corrections, algorithm10}
+use Rattle.rules.specs.Corrections.{Corrections, oneMore}
 use Rattle.rules.proofs.Recurrences.{M-rules}
 
 M-some : (n : ℕ) → 0 < M n
@@ -35,5 +36,5 @@ corrections = record {
   one-too-far = too-far;
 }
   where
-    too-far : (n c : ℕ) → 1 < n → algorithm10 c n ≡ M n → c ≡ 0
+    too-far : (n c : ℕ) → 1 < n → oneMore c n ≡ M n → c ≡ 0
     too-far n c l e = none (M (n - 1)) c (M-some (n - 1)) (omega (arith, e, M-rules .others n l))

@@ -2,8 +2,8 @@
 -- rules follow from the numbers', as an edge has one number. Assumes nothing.
 --
 --   from-lt                                      what a step brings, where it brings anything
---   directed-number-rules, directed-edge-rules   the rules are kept; of edges, where every step goes on and no b is below -3
---   directed-number-only, directed-edge-only     two functions that keep them agree on valid edges, and on numbers below the count
+--   directed-number-rules, directed-edge-rules   the rules are kept; of edges, where there are at most eight steps, each goes on and no b is below -3 (`Small`)
+--   directed-number-only, directed-edge-only     two functions that keep them agree on valid edges, and, with such steps, on numbers below the count
 use mathlib.Core.Path.{_≡_, refl, sym, ap, ap₂, _∙_, subst}
 use mathlib.Core.Bool.{Bool, true, false, not}
 use mathlib.Core.List.{List, [], _∷_, _++_, reverse, reverse-cons, reverse-reverse}

@@ -1,4 +1,4 @@
--- Document 01's examples from the rules alone, as one table with one theorem over all its rows: every function that keeps the rules of
+-- Every edge that document 01 gives a number, in its examples and in its listing, and one of family 7, from the rules alone, as one table with one theorem over all its rows: every function that keeps the rules of
 -- numbers has this number, and every one that keeps those of building this edge. By the laws that there is one such function, and by computing
 -- the numbers. Assumes nothing.
 --
@@ -7,7 +7,7 @@
 --   Has r, row-ruled            the edge is valid and has the number, by `numberOf`; so the rules give it
 --   rows                        the table; the theorem is `rows-ruled`
 use mathlib.Core.Path.{_≡_, refl, sym, ap, _∙_}
-use mathlib.Core.Bool.{Bool, false}
+use mathlib.Core.Bool.{Bool, true, false}
 use mathlib.Core.List.{List, [], _∷_}
 use Prim.Native.Nat.{ℕ, _≤_}
 use native.Mathlib.Omega.{arith}
@@ -42,16 +42,16 @@ steps = record { a = 1; b = negsuc 0 } ∷ record { a = 1; b = pos 0 } ∷ recor
 pub data Row : Type 0 where
   arch-row : {family : ℕ → Job} {count : ℕ → ℕ} {d : Bool} {w : ℕ} → ArchFamily family count d w → (n r : ℕ) (e : List ℕ) → Row
   plain-row : {family : ℕ → ℕ → Job} {count : ℕ → ℕ → ℕ} → PlainFamily family count → (n m r : ℕ) (e : List ℕ) → Row
-  open-row : (n : ℕ) (m : ℤ) (r : ℕ) (e : List ℕ) → Row
+  directed-row : (fenced : Bool) (n : ℕ) (m : ℤ) (r : ℕ) (e : List ℕ) → Row
 
 abbrev pub Ruled : Row → Type 0
 Ruled (arch-row {family} {count} {d} {w} F n r e) =
     ((num : ℕ → List ℕ → ℕ) → RulesArchNumber family count d w num → num n e ≡ r) × ((edge : ℕ → ℕ → List ℕ) → RulesArchEdge count d w edge → edge n r ≡ e)
 Ruled (plain-row {family} {count} F n m r e) =
     ((num : ℕ → ℕ → List ℕ → ℕ) → RulesPlainNumber family count num → num n m e ≡ r) × ((edge : ℕ → ℕ → ℕ → List ℕ) → RulesPlainEdge count edge → edge n m r ≡ e)
-Ruled (open-row n m r e) =
-    ((num : ℕ → ℤ → List ℕ → ℕ) → RulesDirectedNumber false 0 steps num → num n m e ≡ r)
-    × ((edge : ℕ → ℤ → ℕ → List ℕ) → RulesDirectedEdge false 0 steps edge → edge n m r ≡ e)
+Ruled (directed-row fenced n m r e) =
+    ((num : ℕ → ℤ → List ℕ → ℕ) → RulesDirectedNumber fenced 0 steps num → num n m e ≡ r)
+    × ((edge : ℕ → ℤ → ℕ → List ℕ) → RulesDirectedEdge fenced 0 steps edge → edge n m r ≡ e)
 
 -- ---- a row holds where its edge is valid and has its number
 
@@ -78,7 +78,7 @@ T-small = record {
 Has : Row → Type 0
 Has (arch-row {family} F n r e) = Valid (family n) e × (numberOf (family n) e ≡ r)
 Has (plain-row {family} F n m r e) = Valid (family n m) e × (numberOf (family n m) e ≡ r)
-Has (open-row n m r e) = Valid (directed false n m 0 steps) e × (numberOf (directed false n m 0 steps) e ≡ r)
+Has (directed-row fenced n m r e) = Valid (directed fenced n m 0 steps) e × (numberOf (directed fenced n m 0 steps) e ≡ r)
 
 row-ruled : (r : Row) → Has r → Ruled r
 unfolding Has countOf
@@ -96,12 +96,12 @@ row-ruled (plain-row {family} F n m r e) (t, q) = (
       ∙ ap (edgeOf (family n m)) (sym q)
       ∙ plain-numbering F n m .back e t,
 )
-row-ruled (open-row n m r e) (t, q) =
-    let A = numbering (directed false n m 0 steps) T-small in (
-      λ num h. directed-number-only false 0 steps num (λ n m. numberOf (directed false n m 0 steps)) h (directed-number-rules false 0 steps) n m e t ∙ q,
+row-ruled (directed-row fenced n m r e) (t, q) =
+    let A = numbering (directed fenced n m 0 steps) T-small in (
+      λ num h. directed-number-only fenced 0 steps num (λ n m. numberOf (directed fenced n m 0 steps)) h (directed-number-rules fenced 0 steps) n m e t ∙ q,
       λ edge h.
-          directed-edge-only false 0 steps T-small edge (λ n m. edgeOf (directed false n m 0 steps)) h (directed-edge-rules false 0 steps T-small) n m r (omega (arith, q, A .below e t))
-          ∙ ap (edgeOf (directed false n m 0 steps)) (sym q)
+          directed-edge-only fenced 0 steps T-small edge (λ n m. edgeOf (directed fenced n m 0 steps)) h (directed-edge-rules fenced 0 steps T-small) n m r (omega (arith, q, A .below e t))
+          ∙ ap (edgeOf (directed fenced n m 0 steps)) (sym q)
           ∙ A .back e t,
     )
 
@@ -119,6 +119,8 @@ abbrev pub rows : List Row
 rows =
     plain-row of-north-east 3 3 9 (N ∷ N ∷ E ∷ E ∷ E ∷ N ∷ []) ∷
     plain-row of-north-east 0 0 0 [] ∷
+    plain-row of-north-east 3 3 0 (E ∷ E ∷ E ∷ N ∷ N ∷ N ∷ []) ∷
+    plain-row of-north-east 3 3 19 (N ∷ N ∷ N ∷ E ∷ E ∷ E ∷ []) ∷
     arch-row of-dyck 4 4 (E ∷ E ∷ N ∷ E ∷ N ∷ E ∷ N ∷ N ∷ []) ∷
     arch-row of-dyck 4 5 (E ∷ N ∷ E ∷ E ∷ E ∷ N ∷ N ∷ N ∷ []) ∷
     plain-row of-delannoy 1 1 0 (E ∷ N ∷ []) ∷
@@ -126,12 +128,16 @@ rows =
     plain-row of-delannoy 1 1 2 (D ∷ []) ∷
     arch-row of-schroder 3 12 (D ∷ E ∷ D ∷ N ∷ []) ∷
     arch-row of-schroder 3 14 (D ∷ E ∷ E ∷ N ∷ N ∷ []) ∷
+    arch-row of-motzkin 3 0 (D ∷ D ∷ D ∷ []) ∷
+    arch-row of-motzkin 3 1 (E ∷ N ∷ D ∷ []) ∷
+    arch-row of-motzkin 3 2 (E ∷ D ∷ N ∷ []) ∷
     arch-row of-motzkin 3 3 (D ∷ E ∷ N ∷ []) ∷
-    open-row 3 (pos 1) 5 (49 ∷ 51 ∷ 51 ∷ []) ∷
-    open-row 3 (pos 1) 0 (51 ∷ 51 ∷ 49 ∷ []) ∷
-    open-row 3 (pos 1) 1 (51 ∷ 50 ∷ 50 ∷ []) ∷
+    directed-row false 3 (pos 1) 5 (49 ∷ 51 ∷ 51 ∷ []) ∷
+    directed-row false 3 (pos 1) 0 (51 ∷ 51 ∷ 49 ∷ []) ∷
+    directed-row false 3 (pos 1) 1 (51 ∷ 50 ∷ 50 ∷ []) ∷
+    directed-row true 3 (pos 1) 1 (51 ∷ 50 ∷ 50 ∷ []) ∷
     []
 
 pub rows-ruled : All Ruled rows
 unfolding Has Valid walks numberOf numbered sum count counts before size number
-rows-ruled = all-ruled rows (((tt, refl), ((tt, refl), ((tt, refl), ((tt, refl), ((tt, refl), ((tt, refl), ((tt, refl), ((tt, refl), ((tt, refl), ((tt, refl), ((tt, refl), ((tt, refl), ((tt, refl), tt))))))))))))))
+rows-ruled = all-ruled rows ((tt, refl), ((tt, refl), ((tt, refl), ((tt, refl), ((tt, refl), ((tt, refl), ((tt, refl), ((tt, refl), ((tt, refl), ((tt, refl), ((tt, refl), ((tt, refl), ((tt, refl), ((tt, refl), ((tt, refl), ((tt, refl), ((tt, refl), ((tt, refl), ((tt, refl), tt)))))))))))))))))))

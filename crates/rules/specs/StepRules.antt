@@ -3,7 +3,7 @@
 --
 --   PlainFamily family count       families 1 and 3, by their counts
 --   RulesPlainNumber num           the rules of the number num n m e of the edge e to (n,m) (000, algorithms 1 and 5)
---   rankPlain count n m u          the number by these algorithms as they are written
+--   rankPlain count n m u          the number as these algorithms work it out, which stop at the rim
 --   RulesPlainEdge edge            the rules of the edge edge n m r to (n,m) with the number r (000, algorithms 2 and 6)
 --   digit i                        the letter of step i of families 6 and 7, counted from 0
 --   brings W pairs n m i           what step i brings to the count: how many edges to (n,m) end in it
@@ -41,7 +41,8 @@ module _ (family : ℕ → ℕ → Job) (count : ℕ → ℕ → ℕ) where
     pub diagonal : (n m : ℕ) (e : List ℕ) → Valid (family (suc n) (suc m)) (e ++ (D ∷ []))
         → num (suc n) (suc m) (e ++ (D ∷ [])) ≡ count (suc n) m + count n (suc m) + num n m e
 
--- the algorithms themselves, which stop at the rim: u is the edge from its last step backwards
+-- the two algorithms on a whole edge: u is the edge from its last step backwards, and what is left of it at the rim isn't looked at. Family 1
+-- has the first two branches alone
 unfoldable pub rankPlain : (ℕ → ℕ → ℕ) → ℕ → ℕ → List ℕ → ℕ
 rankPlain count n m [] = 0
 rankPlain count zero m (b ∷ u) = 0
