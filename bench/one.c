@@ -16,7 +16,7 @@ int main(int argc, char **argv)
     int library = !strcmp(argv[1], "edges");
     int times = atoi(argv[3]);
     uint8_t block[20] = {atoi(argv[4]), atoi(argv[5]), atoi(argv[6])};
-    for (int i = 7; i + 1 < argc; i += 2, block[3]++) {
+    for (int i = 7; i + 1 < argc && block[3] < 8; i += 2, block[3]++) {
         block[4 + 2 * block[3]] = atoi(argv[i]);
         block[5 + 2 * block[3]] = atoi(argv[i + 1]);
     }
@@ -25,8 +25,8 @@ int main(int argc, char **argv)
     size_t len, pack_len;
     if (edges_count(block, 20, &count) || edges_build(block, 20, count / 3, edge, sizeof edge, &len))
         return 1;
-    for (int i = 0; i < 200; i++)
-        numbers[i] = count / 201 * i;
+    for (int i = 0; i < 200; i++) /* from the first to near the last, or again and again */
+        numbers[i] = count > 200 ? count / 200 * i : i % count;
     for (int i = 0; i < times; i++)
         switch (argv[2][0]) {
         case 'c':

@@ -1,8 +1,6 @@
 /*
  * Holds every call of libedges.a against plain C: the same answer, the same bytes, and nothing else touched.
  * Usage: test [SEED]
- *
- * While some calls aren't in the archive yet, compile with -DHAVE_DIP=0, -DHAVE_EARLIER=0 or -DHAVE_PACK=0.
  */
 #include <stdio.h>
 #include <stdlib.h>
@@ -13,16 +11,6 @@
 #include "cases.h"
 #include "draw.h"
 #include "lend.h"
-
-#ifndef HAVE_DIP
-#define HAVE_DIP 1
-#endif
-#ifndef HAVE_EARLIER
-#define HAVE_EARLIER 1
-#endif
-#ifndef HAVE_PACK
-#define HAVE_PACK 1
-#endif
 
 /* One call each, on lent memory, compared with plain C */
 
@@ -62,7 +50,6 @@ static void check_build(const Block *block, uint64_t number, size_t out_len)
            plain_build(block->bytes, block->len, number, want(0), out_len, want(1)));
 }
 
-#if HAVE_DIP
 static void check_dip(const Block *block, const Bytes *edge)
 {
     begin("edges_dip");
@@ -72,9 +59,7 @@ static void check_dip(const Block *block, const Bytes *edge)
     finish(edges_dip(lent, block->len, lent_edge, edge->len, dips, place),
            plain_dip(block->bytes, block->len, edge->bytes, edge->len, want(0), want(1)));
 }
-#endif
 
-#if HAVE_EARLIER
 static void check_earlier(const Block *block, const Bytes *a, const Bytes *b)
 {
     begin("edges_earlier");
@@ -85,9 +70,7 @@ static void check_earlier(const Block *block, const Bytes *a, const Bytes *b)
     finish(edges_earlier(lent, block->len, lent_a, a->len, lent_b, b->len, second),
            plain_earlier(block->bytes, block->len, a->bytes, a->len, b->bytes, b->len, want(0)));
 }
-#endif
 
-#if HAVE_PACK
 static void check_pack_write(const Block *block, const uint64_t *numbers, size_t n, size_t out_len)
 {
     begin("edges_pack_write");
@@ -117,7 +100,6 @@ static void check_pack_repeat(const Bytes *pack)
     finish(edges_pack_repeat(lent, pack->len, found, later, earlier),
            plain_pack_repeat(pack->bytes, pack->len, want(0), want(1), want(2)));
 }
-#endif
 
 /* Plain C against brute force, and the library on every edge of the same small jobs */
 
@@ -490,7 +472,6 @@ static void builds(void)
     end_section("build");
 }
 
-#if HAVE_DIP
 static void dips(void)
 {
     static Bytes edge;
@@ -508,9 +489,7 @@ static void dips(void)
     }
     end_section("dip");
 }
-#endif
 
-#if HAVE_EARLIER
 static void earlier_ones(void)
 {
     static Bytes a, b;
@@ -537,9 +516,7 @@ static void earlier_ones(void)
     }
     end_section("earlier");
 }
-#endif
 
-#if HAVE_PACK
 enum { MOST_NUMBERS = 1000 };
 
 /* Numbers to pack: up to 200 and now and then more, from a few different ones or from all, sometimes one too large. */
@@ -635,7 +612,6 @@ static void pack_repeats(void)
     }
     end_section("pack_repeat");
 }
-#endif
 
 /* Every call must have given each answer that it has. */
 #define MUST_HAVE_SEEN(name, ...)                                                                                      \
@@ -647,17 +623,11 @@ static void all_answers_seen(void)
     MUST_HAVE_SEEN("edges_width", 0, FORM, SIZE, TWIN, OVER);
     MUST_HAVE_SEEN("edges_number", 0, FORM, SIZE, TWIN, OVER, NOT_AN_EDGE);
     MUST_HAVE_SEEN("edges_build", 0, FORM, SIZE, TWIN, OVER, BEYOND, ROOM);
-#if HAVE_DIP
     MUST_HAVE_SEEN("edges_dip", 0, FORM, SIZE, TWIN, OVER, KIND, NOT_AN_EDGE);
-#endif
-#if HAVE_EARLIER
     MUST_HAVE_SEEN("edges_earlier", 0, FORM, SIZE, TWIN, OVER, NOT_AN_EDGE);
-#endif
-#if HAVE_PACK
     MUST_HAVE_SEEN("edges_pack_write", 0, FORM, SIZE, TWIN, OVER, MANY, BEYOND, ROOM);
     MUST_HAVE_SEEN("edges_pack_edge", 0, PACK, FORM, SIZE, TWIN, OVER, NOT_AN_EDGE, NO_SUCH_EDGE);
     MUST_HAVE_SEEN("edges_pack_repeat", 0, PACK, FORM, SIZE, TWIN, OVER, NOT_AN_EDGE);
-#endif
 }
 
 int main(int argc, char **argv)
@@ -671,17 +641,11 @@ int main(int argc, char **argv)
     widths();
     numbers();
     builds();
-#if HAVE_DIP
     dips();
-#endif
-#if HAVE_EARLIER
     earlier_ones();
-#endif
-#if HAVE_PACK
     pack_writes();
     pack_edges();
     pack_repeats();
-#endif
     all_answers_seen();
     return end_tests();
 }

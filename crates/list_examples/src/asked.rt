@@ -1,4 +1,5 @@
-// Lists asked of every engine and of `calls`, each answer with what was lent afterwards: three places for numbers and for ends, 300 bytes for steps.
+// Lists asked of every engine and of `calls`, each answer with what was lent afterwards: three places for numbers and for ends; of 300 bytes for
+// steps the first twelve, and whether the others are as they were.
 use crate::say;
 
 fn shown(numbers: &[u64]) {
@@ -57,13 +58,26 @@ pub(crate) fn numbers(block: &[u8], bytes: &[u8], from: usize, ends: &[usize]) {
     say::end();
 }
 
+// Whether all bytes from a place on are dots.
+fn is_dotted(steps: &[u8], from: usize) -> bool {
+    let mut i = from;
+    while i < steps.len() {
+        if steps[i] != b'.' {
+            return false;
+        }
+        i += 1;
+    }
+    true
+}
+
 fn laid(steps: &[u8], ends: &[usize]) {
     sizes(ends);
+    say::yes(is_dotted(steps, 12));
     say::text(lines::part(steps, 0, 12));
 }
 
 fn from_arch(block: &[u8], numbers: &[u64]) {
-    let mut steps = [46u8; 300];
+    let mut steps = [b'.'; 300];
     let mut ends = [7usize; 3];
     say::text(b" arch ");
     say::building(arch::build_all(block, numbers, &mut steps, &mut ends));
@@ -71,7 +85,7 @@ fn from_arch(block: &[u8], numbers: &[u64]) {
 }
 
 fn from_rows(block: &[u8], numbers: &[u64]) {
-    let mut steps = [46u8; 300];
+    let mut steps = [b'.'; 300];
     let mut ends = [7usize; 3];
     say::text(b" rows ");
     say::building(rows::build_all(block, numbers, &mut steps, &mut ends));
@@ -79,7 +93,7 @@ fn from_rows(block: &[u8], numbers: &[u64]) {
 }
 
 fn from_grid(block: &[u8], numbers: &[u64]) {
-    let mut steps = [46u8; 300];
+    let mut steps = [b'.'; 300];
     let mut ends = [7usize; 3];
     say::text(b" grid ");
     say::building(grid::build_all(block, numbers, &mut steps, &mut ends));
@@ -87,7 +101,7 @@ fn from_grid(block: &[u8], numbers: &[u64]) {
 }
 
 fn from_calls(block: &[u8], numbers: &[u64]) {
-    let mut steps = [46u8; 300];
+    let mut steps = [b'.'; 300];
     let mut ends = [7usize; 3];
     say::text(b" calls ");
     say::wrote(calls::build_all(block, numbers, &mut steps, &mut ends));

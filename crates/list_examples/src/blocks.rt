@@ -7,6 +7,9 @@ const T: [u8; 16] = [1, 255, 1, 0, 1, 1, 0, 0, 0, 0, 0, 0, 0, 0, 0, 0];
 // The steps (1,-3), (1,-1), (1,1), (1,3), (2,-2), (2,0), (2,2): no edge to a height and a column of which one is odd and one isn't.
 pub(crate) const EVEN: [u8; 16] = [1, 253, 1, 255, 1, 1, 1, 3, 2, 254, 2, 0, 2, 2, 0, 0];
 
+// The step (1,1), twice.
+pub(crate) const TWINS: [u8; 16] = [1, 1, 1, 1, 0, 0, 0, 0, 0, 0, 0, 0, 0, 0, 0, 0];
+
 // The steps (1,-3) to (1,3).
 pub(crate) const SEVEN: [u8; 16] = [1, 253, 1, 254, 1, 255, 1, 0, 1, 1, 1, 2, 1, 3, 0, 0];
 

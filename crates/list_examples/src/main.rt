@@ -26,12 +26,18 @@ fn each(block: &[u8]) {
     lists(block);
 }
 
+fn none(block: &[u8]) {
+    asked::numbers(block, b"EN", 0, &[2]);
+    each(block);
+}
+
 fn squares() {
     let dyck = blocks::lettered(2, 2, 2);
     strings(&dyck, b"EENNENEN", 4, b"EENNEENE");
     each(&dyck);
     let schroder = blocks::lettered(4, 2, 2);
     strings(&schroder, b"EENNEDN", 4, b"EENNEDE");
+    asked::numbers(&schroder, b"D", 0, &[1]);
     each(&schroder);
     let motzkin = blocks::lettered(5, 2, 2);
     strings(&motzkin, b"ENDD", 2, b"ENDE");
@@ -58,16 +64,17 @@ fn paired() {
 
 // Refusals, counts that don't fit, and a job with none though many of its cells don't fit.
 fn refused() {
-    each(b"");
-    each(&blocks::lettered(8, 1, 1));
-    each(&blocks::lettered(1, 65, 0));
-    each(&blocks::lettered(2, 65, 65));
-    each(&blocks::with_t(6, 33, 0));
-    each(&blocks::lettered(1, 34, 34));
-    each(&blocks::lettered(2, 37, 37));
-    each(&blocks::block(6, 32, 0, 7, blocks::SEVEN));
-    each(&blocks::block(6, 32, 96, 7, blocks::SEVEN));
-    each(&blocks::block(6, 32, 1, 7, blocks::EVEN));
+    none(b"");
+    none(&blocks::lettered(8, 1, 1));
+    none(&blocks::lettered(1, 65, 0));
+    none(&blocks::lettered(2, 65, 65));
+    none(&blocks::with_t(6, 33, 0));
+    none(&blocks::block(6, 1, 0, 2, blocks::TWINS));
+    none(&blocks::lettered(1, 34, 34));
+    none(&blocks::lettered(2, 37, 37));
+    none(&blocks::block(6, 32, 0, 7, blocks::SEVEN));
+    none(&blocks::block(6, 32, 96, 7, blocks::SEVEN));
+    none(&blocks::block(6, 32, 1, 7, blocks::EVEN));
 }
 
 fn main() {

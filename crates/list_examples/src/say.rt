@@ -72,7 +72,7 @@ pub(crate) fn numbering(r: Numbering) {
     }
 }
 
-fn built(r: Built) {
+pub(crate) fn built(r: Built) {
     match r {
         Built::Length(n) => {
             text(b"length ");

@@ -1,4 +1,4 @@
-// The small public functions: letters, families, room, parts, and counts by rows.
+// The small public functions: letters, families, jobs, room, parts, counts by rows, writing and walking.
 use crate::blocks;
 use crate::say;
 
@@ -49,8 +49,30 @@ fn families() {
     say::end();
 }
 
+fn made(block: &[u8]) {
+    let made = job::Job::of(block);
+    say::size(job::wide(made.refusal));
+    let job = made.job;
+    say::size(job::wide(job.family));
+    say::size(job::wide(job.n));
+    say::size(job::wide(job.m));
+    say::size(job::wide(job.k));
+    say::size(job::wide(job.a[1]));
+    say::size(job::wide(job.b[1]));
+    say::end();
+}
+
+fn jobs() {
+    say::text(b"jobs: refusal, family, n, m and k, the second pair; m and b raised\n");
+    made(&blocks::lettered(3, 2, 5));
+    made(&blocks::with_t(6, 3, 255));
+    made(&blocks::lettered(0, 1, 1));
+    made(&blocks::lettered(2, 1, 2));
+    made(&blocks::block(7, 1, 0, 2, blocks::TWINS));
+}
+
 fn room() {
-    say::text(b"room for 2 edges, and no ends; for 0: ");
+    say::text(b"room for 2 edges, with a byte less, with one end; for 0: ");
     say::yes(lines::has_room(2, 256, 2));
     say::yes(lines::has_room(2, 255, 2));
     say::yes(lines::has_room(2, 256, 1));
@@ -91,10 +113,7 @@ fn rows_of() {
 }
 
 fn put(edge: &[u8], out: &mut [u8]) {
-    match job::put(edge, out) {
-        job::Built::Length(n) => say::size(n),
-        job::Built::Refused(k) => say::size(job::wide(k)),
-    }
+    say::built(job::put(edge, out));
     say::text(out);
     say::text(b" ");
 }
@@ -140,6 +159,7 @@ fn walks_of() {
 pub(crate) fn run() {
     letters_of();
     families();
+    jobs();
     room();
     parts();
     rows_of();
