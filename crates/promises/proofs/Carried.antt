@@ -5,6 +5,7 @@
 --   number-valid     a valid edge gets a number below c, which is how many valid edges stand before it
 --   number-invalid   any other string is refused with 5
 --   number-alone     two edges with one number are equal
+--   number-up, number-down    numbers run in document 01's order
 --   number-each      every number below c is some valid edge's
 --   build-beyond     any other number is refused with 6
 --   built-number     numbering what was built gives the number back
@@ -103,6 +104,22 @@ module _ (b : List ℕ) (c : ℕ) (ok : Accepted b c) where
       let p = put-of (edgeAnswer b r) output after l (subst (λ (w : Written). BuiltAs w (Length l) after) (build-of b r output) h) in
       let front : take l after ≡ p .edge = ap (λ (k : ℕ). take k after) (sym (p .long)) ∙ ap (take (length (p .edge))) (p .bytes) ∙ take-append-seam (p .edge) (drop (length (p .edge)) output) in
       numbered-one _ s (Number r) n (ap reply (sym (hence.built-number b (stood .job) (stood .known) r (p .edge) (p .is)) ∙ ap (numberAnswer b) (sym front)))
+
+  -- what two edges that have numbers stand for
+  valid-of : (e : List ℕ) (r : ℕ) → NumberMeets b e (Number r) → Valid (stood .job) e × (numberOf (stood .job) e ≡ r)
+  valid-of e r n = hence.number-of-valid b (stood .job) (stood .known) e r (answer-value (numberAnswer b e) r n)
+
+  pub number-up : (e f : List ℕ) (r s : ℕ) → NumberMeets b e (Number r) → NumberMeets b f (Number s) → Before (stood .job) e f → r < s
+  number-up e f r s p q h =
+      let (v, i) = valid-of e r p in
+      let (w, j) = valid-of f s q in
+      omega (arith, i, j, demand-3 b (stood .job) (hence.known-job b (stood .job) (stood .known) .job) .up e f v w h)
+
+  pub number-down : (e f : List ℕ) (r s : ℕ) → NumberMeets b e (Number r) → NumberMeets b f (Number s) → r < s → Before (stood .job) e f
+  number-down e f r s p q h =
+      let (v, i) = valid-of e r p in
+      let (w, j) = valid-of f s q in
+      demand-3 b (stood .job) (hence.known-job b (stood .job) (stood .known) .job) .down e f v w (omega (arith, i, j))
 
   pub number-each : (r : ℕ) → r < c → (e : List ℕ) × Valid (stood .job) e × NumberMeets b e (Number r)
   number-each r l =

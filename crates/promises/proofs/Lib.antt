@@ -1,4 +1,5 @@
 pub mod One
 pub mod Settled
 pub mod Carried
+pub mod Exported
 pub mod Packs
