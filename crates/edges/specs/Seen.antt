@@ -37,7 +37,7 @@ pub record SeenWrite (w : Written) (r before after : ℕ) (output : List ℕ) : 
   pub seen : Seen (w .answer) r before after
   pub bytes : output ≡ w .output
 
--- the header: "0 or 1; where there is no dip, or no repeat, the places are left as they were"
+-- 0 or 1; where there is no dip, or no repeat, the places are left as they were (`include/edges.h`)
 abbrev pub found : {A : Type 0} → Reply (Option A) → ℕ → ℕ
 found (value none) before = 0
 found (value (some a)) before = 1
