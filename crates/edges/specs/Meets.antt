@@ -16,6 +16,7 @@ use Rattle.rules.specs.Answers.{countAnswer, widthAnswer, numberAnswer, buildAn
 use Rattle.rules.specs.Questions.{dipAnswer, secondAnswer, packAnswer, partAnswer, repeatAnswer}
 use Rattle.edges.specs.Seen.{Seen, SeenWrite, SeenDip, SeenSecond, SeenPart, SeenRepeat}
 
+-- each: "A refusal returns its number alone and writes nothing", and what the call of the same name says
 abbrev pub EdgesCountMeets : List ℕ → ℕ → ℕ → ℕ → Type 0
 EdgesCountMeets block count r count-after = Seen (countAnswer block) r count count-after
 

@@ -9,11 +9,11 @@ pub(crate) fn text(t: &[u8]) {
     io::write_all(STDOUT_FILENO, t);
 }
 
-fn decimal(n: u64) {
+pub(crate) fn decimal(n: u64) {
     io::print_decimal(STDOUT_FILENO, n);
 }
 
-fn refused(number: u8) {
+pub(crate) fn refused(number: u8) {
     text(b"refused ");
     decimal(number as u64);
 }

@@ -1,3 +1,4 @@
 pub mod Paired
 pub mod Sums
 pub mod Turns
+pub mod Spanning

@@ -21,6 +21,7 @@ use Rattle.job.specs.Made.{madeOf}
 use Rattle.job.specs.declared.Built.{Built}
 use Rattle.job.specs.declared.Made.{Made}
 
+-- "7 Room: the output is shorter than this answer"
 abbrev pub PutMeets : List ℕ → List ℕ → Built → List ℕ → Type 0
 PutMeets edge out r out-after = BuiltAs (written (accepted edge) out) r out-after
 
@@ -42,5 +43,6 @@ IsFencedMeets family r = r ≡ fenced family
 abbrev pub IsPairedMeets : ℕ → Bool → Type 0
 IsPairedMeets family r = r ≡ paired family
 
+-- "Every job is made from its block of 20 bytes"
 abbrev pub JobOfMeets : List ℕ → Made → Type 0
 JobOfMeets block r = r ≡ madeOf block

@@ -7,5 +7,6 @@ use mathlib.Core.Path.{_≡_}
 use Prim.Native.Nat.{ℕ}
 use Rattle.letters.specs.Letters.{ordinalOf}
 
+-- "`N` before `E` before `D`; digits by value"
 abbrev pub OrdinalOfMeets : Bool → ℕ → ℕ → Type 0
 OrdinalOfMeets lettered b r = r ≡ ordinalOf lettered b

@@ -17,6 +17,7 @@ use Rattle.lines.specs.Lines.{roomy, lesser}
 abbrev pub HasRoomMeets : ℕ → ℕ → ℕ → Bool → Type 0
 HasRoomMeets many steps ends r = r ≡ roomy many steps ends
 
+-- "6 Beyond: a number is not below the count"
 abbrev pub AllBelowMeets : List ℕ → ℕ → Bool → Type 0
 AllBelowMeets numbers count r = r ≡ allBelow count numbers
 

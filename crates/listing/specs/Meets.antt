@@ -10,5 +10,6 @@ use Rattle.job.specs.Replies.{BuiltAs}
 use Rattle.listing.specs.Listing.{listingText}
 use Rattle.job.specs.declared.Built.{Built}
 
+-- "prints a header (family, end point, count), then up to 1,000 lines of number and edge"
 abbrev pub WriteMeets : List ℕ → List ℕ → Built → List ℕ → Type 0
 WriteMeets block out r out-after = BuiltAs (written (accepted (listingText block)) out) r out-after

@@ -8,6 +8,7 @@ fn read_few(pack: &[u8]) {
     say::edge(pack, 0);
     say::edge(pack, 1);
     say::edge(pack, 2);
+    say::edge(pack, 65536);
     say::edge(pack, 18446744073709551615);
     say::repeat(pack);
 }

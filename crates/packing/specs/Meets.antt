@@ -8,5 +8,6 @@ use Rattle.rules.specs.Questions.{packAnswer}
 use Rattle.job.specs.Replies.{BuiltAs}
 use Rattle.job.specs.declared.Built.{Built}
 
+-- "Packs are written from a job block and a lent list of numbers."
 abbrev pub WriteMeets : List ℕ → List ℕ → List ℕ → Built → List ℕ → Type 0
 WriteMeets block numbers out r out-after = BuiltAs (packAnswer block numbers out) r out-after

@@ -9,5 +9,6 @@ use Rattle.job.specs.Replies.{reply, countSays}
 use Rattle.plains.specs.Plains.{plainAnswer}
 use Rattle.job.specs.declared.Counted.{Counted}
 
+-- "L(n,m) = L(n,m-1) + L(n-1,m)"; "D(n,m) = D(n,m-1) + D(n-1,m) + D(n-1,m-1)"; "4 Over"
 abbrev pub CountMeets : ℕ → ℕ → Bool → Counted → Type 0
 CountMeets n m diagonal r = countSays r ≡ reply (plainAnswer diagonal n m)

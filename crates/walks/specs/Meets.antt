@@ -12,8 +12,10 @@ use Rattle.walks.specs.Walks.{walkedSays, walkOf, checkedSays, checkOf}
 use Rattle.walks.specs.declared.Checked.{Checked}
 use Rattle.walks.specs.declared.Walked.{Walked}
 
+-- "Start at (0,0). Each byte is a step of the job …; the last point is the end."
 abbrev pub WalkMeets : List ℕ → List ℕ → Walked → Type 0
 WalkMeets block edge r = walkedSays r ≡ walkOf (jobAnswer block) edge
 
+-- the same of each, "from index 0"
 abbrev pub WalkAllMeets : List ℕ → List ℕ → ℕ → List ℕ → Checked → Type 0
 WalkAllMeets block bytes from ends r = checkedSays r ≡ checkOf (jobAnswer block) (cutFrom from ends bytes)

@@ -1,7 +1,7 @@
-// Answers as words of text.
+// Answers as words of a line.
+use crate::say;
 use job::Built;
 use job::Counted;
-use libc::STDOUT_FILENO;
 use lines::Building;
 use lines::Counting;
 use lines::Numbering;
@@ -11,11 +11,11 @@ use walks::Checked;
 use walks::Walked;
 
 pub(crate) fn text(t: &[u8]) {
-    io::write_all(STDOUT_FILENO, t);
+    say::text(t);
 }
 
 pub(crate) fn decimal(n: u64) {
-    io::print_decimal(STDOUT_FILENO, n);
+    say::decimal(n);
     text(b" ");
 }
 
@@ -36,8 +36,8 @@ pub(crate) fn yes(b: bool) {
 }
 
 fn refused(number: u8) {
-    text(b"refused ");
-    decimal(number as u64);
+    say::refused(number);
+    text(b" ");
 }
 
 pub(crate) fn counted(r: Counted) {

@@ -1,8 +1,6 @@
-// Lists of edges and of numbers, engine by engine, with what is lent shown afterwards; and every small public function: one answer a line.
-mod asked; // asked.rt: a list asked of every engine
-mod blocks; // blocks.rt: job blocks
-mod say; // say.rt: answers as words of text
-mod small; // small.rt: letters, families, room, parts, walks
+// Lists of edges and of numbers, engine by engine, with what is lent shown afterwards.
+use crate::asked;
+use crate::blocks;
 
 // Two edges, the second no edge, none at all, and more than there is room for.
 fn strings(block: &[u8], two: &[u8], half: usize, wrong: &[u8]) {
@@ -77,10 +75,19 @@ fn refused() {
     none(&blocks::block(6, 32, 1, 7, blocks::EVEN));
 }
 
-fn main() {
+// Strings and jobs beside a rule: `D` in North-East, a string that begins too late, one for an end that no step leads to; counts near 2^64.
+fn beside() {
+    asked::numbers(&blocks::lettered(1, 1, 1), b"D", 0, &[1]);
+    asked::numbers(&blocks::block(6, 1, 253, 1, blocks::DOWN), b"", 0, &[0]);
+    asked::numbers(&blocks::block(6, 1, 1, 1, blocks::LEVEL), b"1", 0, &[1]);
+    asked::counts(&blocks::block(6, 30, 245, 5, blocks::FIVE));
+    none(&blocks::lettered(1, 33, 35));
+}
+
+pub(crate) fn run() {
     squares();
     plain();
     paired();
     refused();
-    small::run();
+    beside();
 }

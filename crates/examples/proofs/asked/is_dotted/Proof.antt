@@ -2,8 +2,8 @@
 use Prim.Native.Nat.{_-_, _≤_}
 use lib.ListN.{length}
 use borrow.Author.Needs.{needs}
-use Rattle.list_examples.proofs.asked.is_dotted.Statement.{statement}
-use Rattle.list_examples.proofs.asked.is_dotted.Tie as tie
+use Rattle.examples.proofs.asked.is_dotted.Statement.{statement}
+use Rattle.examples.proofs.asked.is_dotted.Tie as tie
 
 abbrev Inv-loop : tie.InvT-loop
 Inv-loop steps from i₀ i = 0 ≤ i

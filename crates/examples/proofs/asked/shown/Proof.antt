@@ -2,8 +2,8 @@
 use Prim.Native.Nat.{_≤_, _-_}
 use lib.ListN.{length}
 use borrow.Author.Needs.{needs}
-use Rattle.list_examples.proofs.asked.shown.Statement.{statement}
-use Rattle.list_examples.proofs.asked.shown.Tie as tie
+use Rattle.examples.proofs.asked.shown.Statement.{statement}
+use Rattle.examples.proofs.asked.shown.Tie as tie
 
 abbrev Inv-loop : tie.InvT-loop
 Inv-loop numbers i₀ i = i ≤ length numbers

@@ -1,11 +1,11 @@
 // Lists asked of every engine and of `calls`, each answer with what was lent afterwards: three places for numbers and for ends; of 300 bytes for
 // steps the first twelve, and whether the others are as they were.
-use crate::say;
+use crate::words;
 
 fn shown(numbers: &[u64]) {
     let mut i = 0;
     while i < numbers.len() {
-        say::decimal(numbers[i]);
+        words::decimal(numbers[i]);
         i += 1;
     }
 }
@@ -13,49 +13,49 @@ fn shown(numbers: &[u64]) {
 fn sizes(ends: &[usize]) {
     let mut i = 0;
     while i < ends.len() {
-        say::size(ends[i]);
+        words::size(ends[i]);
         i += 1;
     }
 }
 
 fn by_arch(block: &[u8], bytes: &[u8], from: usize, ends: &[usize]) {
     let mut numbers = [7u64; 3];
-    say::text(b" arch ");
-    say::numbering(arch::number_all(block, bytes, from, ends, &mut numbers));
+    words::text(b" arch ");
+    words::numbering(arch::number_all(block, bytes, from, ends, &mut numbers));
     shown(&numbers);
 }
 
 fn by_rows(block: &[u8], bytes: &[u8], from: usize, ends: &[usize]) {
     let mut numbers = [7u64; 3];
-    say::text(b" rows ");
-    say::numbering(rows::number_all(block, bytes, from, ends, &mut numbers));
+    words::text(b" rows ");
+    words::numbering(rows::number_all(block, bytes, from, ends, &mut numbers));
     shown(&numbers);
 }
 
 fn by_grid(block: &[u8], bytes: &[u8], from: usize, ends: &[usize]) {
     let mut numbers = [7u64; 3];
-    say::text(b" grid ");
-    say::numbering(grid::number_all(block, bytes, from, ends, &mut numbers));
+    words::text(b" grid ");
+    words::numbering(grid::number_all(block, bytes, from, ends, &mut numbers));
     shown(&numbers);
 }
 
 fn by_calls(block: &[u8], bytes: &[u8], from: usize, ends: &[usize]) {
     let mut numbers = [7u64; 3];
-    say::text(b" calls ");
-    say::ranked(calls::number_all(block, bytes, from, ends, &mut numbers));
+    words::text(b" calls ");
+    words::ranked(calls::number_all(block, bytes, from, ends, &mut numbers));
     shown(&numbers);
 }
 
 // The numbers of a list of edges, and whether they are edges.
 pub(crate) fn numbers(block: &[u8], bytes: &[u8], from: usize, ends: &[usize]) {
-    say::text(bytes);
+    words::text(bytes);
     by_arch(block, bytes, from, ends);
     by_rows(block, bytes, from, ends);
     by_grid(block, bytes, from, ends);
     by_calls(block, bytes, from, ends);
-    say::text(b" walks ");
-    say::checked(walks::walk_all(block, bytes, from, ends));
-    say::end();
+    words::text(b" walks ");
+    words::checked(walks::walk_all(block, bytes, from, ends));
+    words::end();
 }
 
 // Whether all bytes from a place on are dots.
@@ -72,39 +72,39 @@ fn is_dotted(steps: &[u8], from: usize) -> bool {
 
 fn laid(steps: &[u8], ends: &[usize]) {
     sizes(ends);
-    say::yes(is_dotted(steps, 12));
-    say::text(lines::part(steps, 0, 12));
+    words::yes(is_dotted(steps, 12));
+    words::text(lines::part(steps, 0, 12));
 }
 
 fn from_arch(block: &[u8], numbers: &[u64]) {
     let mut steps = [b'.'; 300];
     let mut ends = [7usize; 3];
-    say::text(b" arch ");
-    say::building(arch::build_all(block, numbers, &mut steps, &mut ends));
+    words::text(b" arch ");
+    words::building(arch::build_all(block, numbers, &mut steps, &mut ends));
     laid(&steps, &ends);
 }
 
 fn from_rows(block: &[u8], numbers: &[u64]) {
     let mut steps = [b'.'; 300];
     let mut ends = [7usize; 3];
-    say::text(b" rows ");
-    say::building(rows::build_all(block, numbers, &mut steps, &mut ends));
+    words::text(b" rows ");
+    words::building(rows::build_all(block, numbers, &mut steps, &mut ends));
     laid(&steps, &ends);
 }
 
 fn from_grid(block: &[u8], numbers: &[u64]) {
     let mut steps = [b'.'; 300];
     let mut ends = [7usize; 3];
-    say::text(b" grid ");
-    say::building(grid::build_all(block, numbers, &mut steps, &mut ends));
+    words::text(b" grid ");
+    words::building(grid::build_all(block, numbers, &mut steps, &mut ends));
     laid(&steps, &ends);
 }
 
 fn from_calls(block: &[u8], numbers: &[u64]) {
     let mut steps = [b'.'; 300];
     let mut ends = [7usize; 3];
-    say::text(b" calls ");
-    say::wrote(calls::build_all(block, numbers, &mut steps, &mut ends));
+    words::text(b" calls ");
+    words::wrote(calls::build_all(block, numbers, &mut steps, &mut ends));
     laid(&steps, &ends);
 }
 
@@ -115,18 +115,18 @@ pub(crate) fn edges(block: &[u8], numbers: &[u64]) {
     from_rows(block, numbers);
     from_grid(block, numbers);
     from_calls(block, numbers);
-    say::end();
+    words::end();
 }
 
 // The count by each engine.
 pub(crate) fn counts(block: &[u8]) {
-    say::text(b"arch ");
-    say::counting(arch::count(block));
-    say::text(b"rows ");
-    say::counting(rows::count(block));
-    say::text(b"grid ");
-    say::counting(grid::count(block));
-    say::text(b"calls ");
-    say::counted(calls::count(block));
-    say::end();
+    words::text(b"arch ");
+    words::counting(arch::count(block));
+    words::text(b"rows ");
+    words::counting(rows::count(block));
+    words::text(b"grid ");
+    words::counting(grid::count(block));
+    words::text(b"calls ");
+    words::counted(calls::count(block));
+    words::end();
 }
