@@ -1,4 +1,6 @@
 // The counts of families 1 and 3, with one row of the table at a time: document 01's L and D.
+#![tactic(auto)]
+
 ghost use Rattle.std.specs.Prelude.{◌≡◌, ◌≤◌, length};
 ghost use Rattle.plains.specs.Plains.{NextRow};
 ghost use Rattle.plains.specs.Meets.{CountMeets};

@@ -1,4 +1,6 @@
 // The one table of families 1, 3, 6 and 7: the types that its definitions and laws speak of. The crates that fill it have the functions.
+#![tactic(auto)]
+
 use job::Job;
 
 // A count, or that it needs more than 64 bits.
