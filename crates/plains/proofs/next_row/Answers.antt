@@ -1,4 +1,5 @@
 -- The loop along the row: what was made so far, for whatever row it was given. Assumes nothing.
+-- the turn, once both sums are made
 use Rattle.std.proofs.Common.{◌≡◌, ℕ, ◌+◌, ◌-◌, ◌^◌, ◌<◌, ◌≤◌, length, refl, ◌∙◌, ⊎_elim, le_refl, lit<, length-set}
 use Rattle.howmany.specs.Choose.{pick}
 use Rattle.plains.specs.Plains.{Row}
@@ -38,31 +39,27 @@ returns-then-sum-b c =
     (λ j r. between-over (c.loop-i.invariant.4 j r) c.loop-i.invariant.0 c.loop-i-test.true _ _ refl (brings (goal.at.returns-then-sum-b c).Joined-diagonal)
     (wrapped_out c.loop-i.invariant.3 c.wrapping_add_u64-sum.ensures c.if-sum-a.false c.wrapping_add_u64-sum-in-loop-i.ensures c.if-sum-b.true))
 
--- the turn, once both sums are made
-abbrev turn : tie.Else3 invariant-loop decreases-loop → tie.In-loop invariant-loop decreases-loop
-turn c = c.before.before.before.before.before.before
-
 pub offset_bounds-row-i-in-loop-i : goal.offset_bounds-row-i-in-loop-i
-offset_bounds-row-i-in-loop-i c = record { fits = place-fits _ _ (turn (goal.at.offset_bounds-row-i-in-loop-i c).Else-sum-b).loop-test.true (turn (goal.at.offset_bounds-row-i-in-loop-i c).Else-sum-b).before.before.requires.0 }
+offset_bounds-row-i-in-loop-i c = record { fits = place-fits _ _ c.loop-i-test.true c.requires.0 }
 
 pub bounds-row-i-in-loop-i : goal.bounds-row-i-in-loop-i
-bounds-row-i-in-loop-i c = place_in _ _ (turn (goal.at.bounds-row-i-in-loop-i c).After-way_told-in-loop-i-1).loop-test.true (turn (goal.at.bounds-row-i-in-loop-i c).After-way_told-in-loop-i-1).before.before.requires.0
+bounds-row-i-in-loop-i c = place_in _ _ c.loop-i-test.true c.requires.0
 
 pub overflow_add-i : goal.overflow_add-i
-overflow_add-i c = record { fits = next_fits _ _ (turn (goal.at.overflow_add-i c).After-way_told-in-loop-i-1).loop-test.true (turn (goal.at.overflow_add-i c).After-way_told-in-loop-i-1).before.before.requires.0 }
+overflow_add-i c = record { fits = next_fits _ _ c.loop-i-test.true c.requires.0 }
 
 pub loop-i-smaller : goal.loop-i-smaller
-loop-i-smaller c = next-less _ _ (turn (goal.at.loop-i-smaller c).After-way_told-in-loop-i-1).loop-test.true (turn (goal.at.loop-i-smaller c).After-way_told-in-loop-i-1).before.before.requires.0
+loop-i-smaller c = next-less _ _ c.loop-i-test.true c.requires.0
 
 pub loop-i-preserved : goal.loop-i-preserved
 loop-i-preserved c = (
-  le-more 1 _ 1 (turn (goal.at.loop-i-preserved c).After-way_told-in-loop-i-1).before.loop.invariant.0,
-  next_le _ _ (turn (goal.at.loop-i-preserved c).After-way_told-in-loop-i-1).loop-test.true (turn (goal.at.loop-i-preserved c).After-way_told-in-loop-i-1).before.before.requires.0,
-  length-set (turn (goal.at.loop-i-preserved c).After-way_told-in-loop-i-1).before.loop.row _ _ ∙ (turn (goal.at.loop-i-preserved c).After-way_told-in-loop-i-1).before.loop.invariant.2,
-  wrapped_fits (turn (goal.at.loop-i-preserved c).After-way_told-in-loop-i-1).before.loop.invariant.3 c.wrapping_add_u64-sum.ensures c.if-sum-a.false c.wrapping_add_u64-sum-in-loop-i.ensures c.if-sum-b.false,
-  λ j r. between_next ((turn (goal.at.loop-i-preserved c).After-way_told-in-loop-i-1).before.loop.invariant.4 j r) (turn (goal.at.loop-i-preserved c).After-way_told-in-loop-i-1).before.loop.invariant.0 (turn (goal.at.loop-i-preserved c).After-way_told-in-loop-i-1).loop-test.true _ _ refl
-      (brings (goal.at.loop-i-preserved c).After-wrapping_add_u64-sum) (in_long _ _ _ ((turn (goal.at.loop-i-preserved c).After-way_told-in-loop-i-1).before.loop.invariant.2 ∙ (turn (goal.at.loop-i-preserved c).After-way_told-in-loop-i-1).before.before.requires.1) (place_in _ _ (turn (goal.at.loop-i-preserved c).After-way_told-in-loop-i-1).loop-test.true (turn (goal.at.loop-i-preserved c).After-way_told-in-loop-i-1).before.before.requires.0)) _
-      (wrapped_in (turn (goal.at.loop-i-preserved c).After-way_told-in-loop-i-1).before.loop.invariant.3 c.wrapping_add_u64-sum.ensures c.if-sum-a.false c.wrapping_add_u64-sum-in-loop-i.ensures c.if-sum-b.false),
+  le-more 1 _ 1 c.loop-i.invariant.0,
+  next_le _ _ c.loop-i-test.true c.requires.0,
+  length-set c.loop-i.row _ _ ∙ c.loop-i.invariant.2,
+  wrapped_fits c.loop-i.invariant.3 c.wrapping_add_u64-sum.ensures c.if-sum-a.false c.wrapping_add_u64-sum-in-loop-i.ensures c.if-sum-b.false,
+  λ j r. between_next (c.loop-i.invariant.4 j r) c.loop-i.invariant.0 c.loop-i-test.true _ _ refl
+      (brings (goal.at.loop-i-preserved c).Joined-diagonal) (in_long _ _ _ (c.loop-i.invariant.2 ∙ c.requires.1) (place_in _ _ c.loop-i-test.true c.requires.0)) _
+      (wrapped_in c.loop-i.invariant.3 c.wrapping_add_u64-sum.ensures c.if-sum-a.false c.wrapping_add_u64-sum-in-loop-i.ensures c.if-sum-b.false),
 )
 
 pub returns : goal.returns

@@ -1,4 +1,5 @@
 -- The loop along the row: what was made so far, for whatever row it was given. Assumes nothing.
+-- the turn, once both sums are made
 use Rattle.std.proofs.Common.{◌≡◌, ℕ, ◌+◌, ◌-◌, ◌^◌, ◌<◌, ◌≤◌, length, refl, ◌∙◌, ⊎_elim, le_refl, lit<, length-set}
 use Rattle.howmany.specs.Choose.{pick}
 use Rattle.plains.specs.Plains.{Row}
