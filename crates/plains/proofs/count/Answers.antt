@@ -1,5 +1,5 @@
 -- By rows of the lesser of n and m; n and m may be turned. Assumes nothing.
-use Rattle.std.proofs.Common.{◌∙◌, arith, rules}
+use Rattle.std.proofs.Common.{◌∙◌, arith}
 use Rattle.plains.proofs.Ends.{ends-over}
 use Rattle.plains.proofs.Rows.{over-says, turned-says}
 use Rattle.plains.proofs.count.Goals as goal
