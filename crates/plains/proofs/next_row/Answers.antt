@@ -24,17 +24,17 @@ brings c =
       | else-diagonal w ↦ picked_no _ _ _ w.if-diagonal.false w.b-is
     ]
 
-pub returns-then-sum-a : goal.returns-then-sum-a
-returns-then-sum-a c =
+pub returns-then-sum-least : goal.returns-then-sum-least
+returns-then-sum-least c =
     row-over _ _ _ _ c.loop-i.invariant.2
-    (λ j r. between-over (c.loop-i.invariant.4 j r) c.loop-i.invariant.0 c.loop-i-test.true _ _ refl (brings (goal.at.returns-then-sum-a c).Joined-diagonal)
-    (le-more _ _ _ (wrap_out c.loop-i.invariant.3 refl c.if-sum-a.true)))
+    (λ j r. between-over (c.loop-i.invariant.4 j r) c.loop-i.invariant.0 c.loop-i-test.true _ _ refl (brings (goal.at.returns-then-sum-least c).Joined-diagonal)
+    (le-more _ _ _ (wrap_out c.loop-i.invariant.3 refl c.if-sum-least.true)))
 
 pub returns-then-sum-b : goal.returns-then-sum-b
 returns-then-sum-b c =
     row-over _ _ _ _ c.loop-i.invariant.2
     (λ j r. between-over (c.loop-i.invariant.4 j r) c.loop-i.invariant.0 c.loop-i-test.true _ _ refl (brings (goal.at.returns-then-sum-b c).Joined-diagonal)
-    (wrapped_out c.loop-i.invariant.3 refl c.if-sum-a.false refl c.if-sum-b.true))
+    (wrapped_out c.loop-i.invariant.3 refl c.if-sum-least.false refl c.if-sum-b.true))
 
 pub offset_bounds-row-i-in-loop-i : goal.offset_bounds-row-i-in-loop-i
 offset_bounds-row-i-in-loop-i c = record { fits = place-fits _ _ c.loop-i-test.true c.requires.0 }
@@ -53,10 +53,10 @@ loop-i-preserved c = (
   le-more 1 _ 1 c.loop-i.invariant.0,
   next_le _ _ c.loop-i-test.true c.requires.0,
   length-set c.loop-i.row _ _ ∙ c.loop-i.invariant.2,
-  wrapped_fits c.loop-i.invariant.3 refl c.if-sum-a.false refl c.if-sum-b.false,
+  wrapped_fits c.loop-i.invariant.3 refl c.if-sum-least.false refl c.if-sum-b.false,
   λ j r. between_next (c.loop-i.invariant.4 j r) c.loop-i.invariant.0 c.loop-i-test.true _ _ refl
       (brings (goal.at.loop-i-preserved c).Joined-diagonal) (in_long _ _ _ (c.loop-i.invariant.2 ∙ c.requires.1) (place_in _ _ c.loop-i-test.true c.requires.0)) _
-      (wrapped_in c.loop-i.invariant.3 refl c.if-sum-a.false refl c.if-sum-b.false),
+      (wrapped_in c.loop-i.invariant.3 refl c.if-sum-least.false refl c.if-sum-b.false),
 )
 
 pub returns : goal.returns
