@@ -1,5 +1,4 @@
 -- `walks::walk` meets its contract: the job of the block is walked. Assumes nothing.
-use borrow.Author.Rules.{rules}
 use Rattle.job.proofs.Standing.{Kept, kept_of, told_of_lem}
 use Rattle.walks.specs.Paces.{PacesOf}
 use Rattle.walks.proofs.Pacing.{held_n, held_paced}
@@ -27,9 +26,9 @@ walk_one-requires c = record { job = (kept (goal.at.walk_one-requires c).Else-re
 pub returns-in-Never : goal.returns-in-Never
 returns-in-Never c =
     let walked = c.walk_one in
-    walk-told _ _ (kept (goal.at.returns-in-Never c).Else-refusal-ne0).answer (stops-said c.paces_of.result (kept (goal.at.returns-in-Never c).Else-refusal-ne0).job _ walked.result (paced (goal.at.returns-in-Never c).After-paces_of) walked.ensures c.enum_told-1.given.1)
+    walk-told _ _ (kept (goal.at.returns-in-Never c).Else-refusal-ne0).answer (stops-said c.paces_of.result (kept (goal.at.returns-in-Never c).Else-refusal-ne0).job _ walked.result (paced (goal.at.returns-in-Never c).After-paces_of) walked.ensures c.in-Never.is)
 
 pub returns-in-At : goal.returns-in-At
 returns-in-At c =
     let walked = c.walk_one in
-    walk-told _ _ (kept (goal.at.returns-in-At c).Else-refusal-ne0).answer (stops-said c.paces_of.result (kept (goal.at.returns-in-At c).Else-refusal-ne0).job _ walked.result (paced (goal.at.returns-in-At c).After-paces_of) walked.ensures c.place-1.given.1)
+    walk-told _ _ (kept (goal.at.returns-in-At c).Else-refusal-ne0).answer (stops-said c.paces_of.result (kept (goal.at.returns-in-At c).Else-refusal-ne0).job _ walked.result (paced (goal.at.returns-in-At c).After-paces_of) walked.ensures c.in-At.is)

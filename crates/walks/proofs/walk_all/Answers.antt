@@ -1,5 +1,4 @@
 -- `walks::walk_all` meets its contract: the job of the block is walked. Assumes nothing.
-use borrow.Author.Rules.{rules}
 use Rattle.job.proofs.Standing.{Kept, kept_of, told_of_lem}
 use Rattle.walks.specs.Paces.{PacesOf}
 use Rattle.walks.proofs.Pacing.{held_n, held_paced}

@@ -1,6 +1,5 @@
 -- `walks::paces::lettered_paces` meets its contract by computing. Assumes nothing.
 use mathlib.Core.Path.{refl}
-use borrow.Author.Rules.{rules}
 use Rattle.walks.specs.Paces.{lettered_paces}
 use Rattle.walks.proofs.paces.lettered_paces.Goals as goal
 

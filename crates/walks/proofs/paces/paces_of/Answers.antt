@@ -1,7 +1,6 @@
 -- `walks::paces::paces_of` meets its contract, branch by branch. Assumes nothing.
 use mathlib.Core.Path.{◌≡◌, refl, sym, ◌∙◌}
 use mathlib.Core.Bool.{false}
-use borrow.Author.Rules.{rules}
 use borrow.Author.Tests.{eq-eqb, ne_eqb}
 use Rattle.rules.specs.Blocks.{paired}
 use Rattle.walks.specs.Paces.{paces_of}

@@ -1,5 +1,4 @@
 -- `walks::walking::letter_of` meets its contract: a place among the first k, or k. Assumes nothing.
-use borrow.Author.Rules.{rules}
 use Rattle.walks.proofs.Pacing.{letter-capped, letter-none}
 use Rattle.walks.proofs.walking.letter_of.Goals as goal
 

@@ -1,12 +1,10 @@
 -- `walks::walking::walk_each` meets its contract: a string more at each turn. Assumes nothing.
 use mathlib.Core.Path.{◌≡◌}
-use Prim.Native.Nat.{◌-◌}
-use lib.ListN.{length, get_or}
-use borrow.Author.Rules.{rules}
+use lib.ListN.{get_or}
 use Rattle.rules.specs.Packs.{part_of}
 use Rattle.walks.specs.declared.walking.Stop.{Stop}
 use Rattle.walks.specs.Paces.{StopsAs}
-use Rattle.walks.proofs.Checking.{Checking, checking_start, checking_more, checked_stop, checked_all, part-stops}
+use Rattle.walks.proofs.Checking.{checking_start, checking_more, checked_stop, checked_all, part-stops}
 use Rattle.walks.proofs.walking.walk_each.Goals as goal
 use Rattle.walks.proofs.walking.walk_each.Goals.{After-walk_one}
 
@@ -26,11 +24,11 @@ stops c e = part-stops c.args.p _ _ _ _ c.part.ensures c.walk_one.result c.walk_
 
 pub returns-in-At : goal.returns-in-At
 returns-in-At c =
-    checked_stop c.loop-i.invariant c.loop-i-test.true _ (stops (goal.at.returns-in-At c).After-walk_one c.place-1.given.1)
+    checked_stop c.loop-i.invariant c.loop-i-test.true _ (stops (goal.at.returns-in-At c).After-walk_one c.in-At.is)
 
 pub loop-i-preserved : goal.loop-i-preserved
 loop-i-preserved c =
-    checking_more c.loop-i.invariant c.loop-i-test.true (stops (goal.at.loop-i-preserved c).After-walk_one c.enum_told-1.given.1)
+    checking_more c.loop-i.invariant c.loop-i-test.true (stops (goal.at.loop-i-preserved c).After-walk_one c.in_default.is)
 
 pub returns : goal.returns
 returns c =

@@ -1,12 +1,7 @@
 -- `walks::walking::walk_each` meets its contract: a string more at each turn. Assumes nothing.
-use mathlib.Core.Path.{◌≡◌}
 use Prim.Native.Nat.{◌-◌}
-use lib.ListN.{length, get_or}
-use borrow.Author.Rules.{rules}
-use Rattle.rules.specs.Packs.{part_of}
-use Rattle.walks.specs.declared.walking.Stop.{Stop}
-use Rattle.walks.specs.Paces.{StopsAs}
-use Rattle.walks.proofs.Checking.{Checking, checking_start, checking_more, checked_stop, checked_all, part-stops}
+use lib.ListN.{length}
+use Rattle.walks.proofs.Checking.{Checking}
 use Rattle.walks.proofs.walking.walk_each.Given as goal
 
 abbrev pub invariant-loop-i : goal.invariant-loop-i

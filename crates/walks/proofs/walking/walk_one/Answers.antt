@@ -1,11 +1,9 @@
 -- `walks::walking::walk_one` meets its contract. The loop's invariant: the first i steps keep the rules, and what is left goes on from the
 -- point at x and h. Assumes nothing.
-use Prim.Native.Nat.{◌+◌, ◌-◌, ◌*◌, ◌≤◌}
+use Prim.Native.Nat.{◌+◌, ◌*◌, ◌≤◌}
 use native.Mathlib.Omega.{arith}
-use lib.ListN.{length}
-use borrow.Author.Rules.{rules}
 use borrow.Author.Tests.{not-true, not-false}
-use Rattle.walks.proofs.Stepping.{Stepping, stepping_start, height-most, stride, not_step, beyond, out, stepping_more, not_there, not_level, arrived}
+use Rattle.walks.proofs.Stepping.{stepping_start, height-most, stride, not_step, beyond, out, stepping_more, not_there, not_level, arrived}
 use Rattle.walks.proofs.walking.walk_one.Goals as goal
 use Rattle.walks.proofs.walking.walk_one.Goals.{After-wide, After-wide-right}
 
@@ -33,7 +31,7 @@ up_by c =
 pub overflow_add-x : goal.overflow_add-x
 overflow_add-x c =
     let inv = c.loop-i.invariant in
-    omega (arith, right_by (goal.at.overflow_add-x c).After-wide-right, inv.x-most, inv.paced.paces.n-most)
+    omega (arith, right_by (goal.at.overflow_add-x c).After-wide-right, inv.x_most, inv.paced.paces.n_most)
 
 pub bounds-b-l : goal.bounds-b-l
 bounds-b-l c =
@@ -59,19 +57,19 @@ returns-then-p-x c =
 pub is_within-requires : goal.is_within-requires
 is_within-requires c =
     let paces = c.loop-i.invariant.paced.paces in
-    (omega (arith, c.if-p-x.false, paces.n-most), paces.m-most)
+    (omega (arith, c.if-p-x.false, paces.n_most), paces.m_most)
 
 pub returns-then-not-is_within : goal.returns-then-not-is_within
 returns-then-not-is_within c =
     out c.loop-i.invariant c.loop-i-test.true c.letter_of-l.ensures c.if-p-l.false
     (omega (arith, c.wide-right.ensures)) (omega (arith, c.wide-right.ensures, c.wide.ensures)) c.if-p-x.false
-    c.is_Within.ensures (not-true _ c.if-not-is_within.true-raw)
+    c.is_within.ensures (not-true _ c.if-not-is_within.true-raw)
 
 pub loop-i-preserved : goal.loop-i-preserved
 loop-i-preserved c =
     stepping_more c.loop-i.invariant c.loop-i-test.true c.letter_of-l.ensures c.if-p-l.false
     (omega (arith, c.wide-right.ensures)) (omega (arith, c.wide-right.ensures, c.wide.ensures)) c.if-p-x.false
-    c.is_Within.ensures (not-false _ c.if-not-is_within.false-raw)
+    c.is_within.ensures (not-false _ c.if-not-is_within.false-raw)
 
 pub returns-then-x-p : goal.returns-then-x-p
 returns-then-x-p c =
@@ -79,11 +77,11 @@ returns-then-x-p c =
 
 pub overflow_mul-p : goal.overflow_mul-p
 overflow_mul-p c =
-    omega (arith, c.loop-i.invariant.paced.paces.n-most)
+    omega (arith, c.loop-i.invariant.paced.paces.n_most)
 
 pub overflow_add-p : goal.overflow_add-p
 overflow_add-p c =
-    omega (arith, c.loop-i.invariant.paced.paces.n-most, c.loop-i.invariant.paced.paces.m-most)
+    omega (arith, c.loop-i.invariant.paced.paces.n_most, c.loop-i.invariant.paced.paces.m_most)
 
 pub returns-then-h-p : goal.returns-then-h-p
 returns-then-h-p c =
