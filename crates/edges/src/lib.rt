@@ -1,5 +1,7 @@
 // The calls for C (include/edges.h): each returns 0 or the documents' refusal number, `edges_pack_numbers` in a result word with an index beside
 // it, and changes nothing on a refusal.
+#![tactic(auto)]
+
 ghost use Rattle.edges.specs.Meets.{EdgesCountMeets, EdgesWidthMeets, EdgesNumberMeets, EdgesBuildMeets, EdgesDipMeets, EdgesEarlierMeets, EdgesPackWriteMeets, EdgesPackEdgeMeets, EdgesPackRepeatMeets, EdgesPackNumbersMeets};
 
 use job::{Built, Counted, Numbered, Sized};
