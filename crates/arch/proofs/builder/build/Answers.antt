@@ -1,0 +1,11 @@
+-- `arch::builder::build` meets its contract: the spelt path is put to the front of the bytes, where there is room. Assumes nothing.
+use Rattle.arch.proofs.Writing.{spelt-whole, put_in_front}
+use borrow.Author.Rules.{rules}
+use Rattle.arch.proofs.builder.build.Goals as goal
+
+pub slice_bounds-put-end : goal.slice_bounds-put-end
+slice_bounds-put-end c = spelt-whole c.spell.ensures
+
+pub returns : goal.returns
+returns c =
+    put_in_front c.spell.ensures c.before.requires.1 c.before.args.out.now _ c.before.requires.2 _ c.put.ensures
