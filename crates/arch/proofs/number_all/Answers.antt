@@ -13,40 +13,36 @@ use Rattle.arch.proofs.Tables.{table-less}
 use Rattle.arch.proofs.number_all.Goals as goal
 use Rattle.arch.proofs.number_all.Goals.{After-known_of}
 
--- what is known of the block, by the arm
-knows : (c : After-known_of) {r : Known} → c.known_of.result ≡ r → KnownIs c.args.block.now (leb (length c.args.ends.now) (length c.args.numbers.now)) r
-knows c e = subst (KnownIs _ _) e c.known_of.ensures
-
 pub dyck_counts-table-requires : goal.dyck_counts-table-requires
-dyck_counts-table-requires c = (knows (goal.at.dyck_counts-table-requires c).After-known_of c.n-1.given.1).small
+dyck_counts-table-requires c = c.in-Dyck.ensures.small
 
 pub number_each-requires : goal.number_each-requires
-number_each-requires c = (c.dyck_counts-table.ensures, leb-true _ _ (knows (goal.at.number_each-requires c).After-known_of c.n-1.given.1).ends.roomy)
+number_each-requires c = (c.dyck_counts-table.ensures, leb-true _ _ c.in-Dyck.ensures.ends.roomy)
 
 pub number_each-requires-in-Schroder : goal.number_each-requires-in-Schroder
 number_each-requires-in-Schroder c =
-    let known = knows (goal.at.number_each-requires-in-Schroder c).After-known_of c.n-in-Schroder-1.given.1 in
+    let known = c.in-Schroder.ensures in
     (table-less true 0 28 _ _ known.small c.schroder_counts-table.ensures, leb-true _ _ known.ends.roomy)
 
 pub number_each-requires-in-Motzkin : goal.number_each-requires-in-Motzkin
 number_each-requires-in-Motzkin c =
-    let known = knows (goal.at.number_each-requires-in-Motzkin c).After-known_of c.n-in-Motzkin-1.given.1 in
+    let known = c.in-Motzkin.ensures in
     (table-less true 1 45 _ _ known.small c.motzkin_counts-table.ensures, leb-true _ _ known.ends.roomy)
 
 pub returns-in-NotMine : goal.returns-in-NotMine
-returns-in-NotMine c = other-ranks (knows (goal.at.returns-in-NotMine c).After-known_of c.enum_told-1.given.1) _ _
+returns-in-NotMine c = other-ranks c.in-NotMine.ensures _ _
 
 pub returns-in-NoRoom : goal.returns-in-NoRoom
-returns-in-NoRoom c = ranks_no_room _ _ _ _ refl (knows (goal.at.returns-in-NoRoom c).After-known_of c.enum_told-in-NoRoom-1.given.1)
+returns-in-NoRoom c = ranks_no_room _ _ _ _ refl c.in-NoRoom.ensures
 
 pub returns-in-Refused : goal.returns-in-Refused
-returns-in-Refused c = ranks_refusing _ _ _ _ refl (knows (goal.at.returns-in-Refused c).After-known_of c.r-1.given.1)
+returns-in-Refused c = ranks_refusing _ _ _ _ refl c.in-Refused.ensures
 
 pub returns-in-Dyck : goal.returns-in-Dyck
-returns-in-Dyck c = ranks-ending _ _ _ _ refl _ _ (knows (goal.at.returns-in-Dyck c).After-known_of c.n-1.given.1).ends c.number_each.ensures
+returns-in-Dyck c = ranks-ending _ _ _ _ refl _ _ c.in-Dyck.ensures.ends c.number_each.ensures
 
 pub returns-in-Schroder : goal.returns-in-Schroder
-returns-in-Schroder c = ranks-ending _ _ _ _ refl _ _ (knows (goal.at.returns-in-Schroder c).After-known_of c.n-in-Schroder-1.given.1).ends c.number_each-in-Schroder.ensures
+returns-in-Schroder c = ranks-ending _ _ _ _ refl _ _ c.in-Schroder.ensures.ends c.number_each-in-Schroder.ensures
 
 pub returns-in-Motzkin : goal.returns-in-Motzkin
-returns-in-Motzkin c = ranks-ending _ _ _ _ refl _ _ (knows (goal.at.returns-in-Motzkin c).After-known_of c.n-in-Motzkin-1.given.1).ends c.number_each-in-Motzkin.ensures
+returns-in-Motzkin c = ranks-ending _ _ _ _ refl _ _ c.in-Motzkin.ensures.ends c.number_each-in-Motzkin.ensures

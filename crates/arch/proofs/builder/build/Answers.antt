@@ -4,8 +4,8 @@ use borrow.Author.Rules.{rules}
 use Rattle.arch.proofs.builder.build.Goals as goal
 
 pub slice_bounds-put-end : goal.slice_bounds-put-end
-slice_bounds-put-end c = spelt-whole c.spell.ensures
+slice_bounds-put-end c = spelt-whole c.spell-from.ensures
 
 pub returns : goal.returns
 returns c =
-    put_in_front c.spell.ensures c.before.requires.1 c.before.args.out.now _ c.before.requires.2 _ c.put.ensures
+    put_in_front c.spell-from.ensures c.requires.1 c.args.out.now _ c.requires.2 _ c.put.ensures

@@ -30,7 +30,7 @@ rank-requires c = c.requires.0
 
 pub returns-in_default : goal.returns-in_default
 returns-in_default c =
-    numbers_of c.requires.0 _ _ _ _ (ranking_stop _ _ _ _ _ _ _ _ _ c.loop-i.invariant c.loop-i-test.true (read (goal.at.returns-in_default c).After-rank c.enum_told-1.given.1))
+    numbers_of c.requires.0 _ _ _ _ (ranking_stop _ _ _ _ _ _ _ _ _ c.loop-i.invariant c.loop-i-test.true (read (goal.at.returns-in_default c).After-rank c.in_default.is))
 
 pub bounds-numbers-i : goal.bounds-numbers-i
 bounds-numbers-i c =
@@ -38,14 +38,8 @@ bounds-numbers-i c =
 
 pub loop-i-preserved : goal.loop-i-preserved
 loop-i-preserved c =
-    let w = read (goal.at.loop-i-preserved c).After-rank c.r-1.given.1 in
+    let w = read (goal.at.loop-i-preserved c).After-rank c.in-At.is in
     ranking_next _ _ _ _ _ _ _ _ _ c.loop-i.invariant _ c.loop-i-test.true w.0 w.1
 
 pub returns : goal.returns
 returns c = numbers_of c.requires.0 _ _ _ _ (ranking_all _ _ _ _ _ _ _ _ _ c.loop-i.invariant c.loop-i-test.false)
-
--- TODO
--- | same_length : tie.Need-same-length invariant-loop decreases-loop
--- | same_length c = c.before.before.before.before.before.before.loop.invariant.as_many
--- | same-length-2 : tie.Need-same-length-2 invariant-loop decreases-loop
--- | same-length-2 c = c.before.loop.invariant.as_many

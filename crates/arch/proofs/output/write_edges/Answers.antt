@@ -4,6 +4,7 @@ use mathlib.Core.Bool.{true}
 use Prim.Native.Nat.{◌+◌, ◌-◌, ◌≤◌}
 use native.Mathlib.Nat.{le_refl}
 use lib.ListN.{length}
+use native.Mathlib.Omega.{arith}
 use borrow.Author.Tests.{not-true, not-false}
 use Rattle.howmany.proofs.Choices.{holds}
 use Rattle.arches.specs.Counts.{count}
@@ -33,14 +34,11 @@ offset_bounds-table-n c = record { fits = byte_fits _ _ (le_refl _) c.requires.0
 pub bounds-table-n : goal.bounds-table-n
 bounds-table-n c = in_table _ _ (le_refl _) c.requires.0.small
 
-pub all_below-requires : goal.all_below-requires
-all_below-requires c = tt
-
 pub returns-then-not-all_below : goal.returns-then-not-all_below
-returns-then-not-all_below c = none-lined c.requires.0 _ _ _ (sym (told (goal.at.returns-then-not-all_below c).After-all_below) ∙ not-true _ c.if-not-all_below.true-raw)
+returns-then-not-all_below c = none-lined c.requires.0 _ _ _ (sym (told (goal.at.returns-then-not-all_below c).After-all_below) ∙ c.if-not-all_below.true)
 
 pub loop-i-init : goal.loop-i-init
-loop-i-init c = (sym (told (goal.at.loop-i-init c).After-all_below) ∙ not-false _ c.if-not-all_below.false-raw, lining_none _ _ _ _ c.requires.1)
+loop-i-init c = (sym (told (goal.at.loop-i-init c).After-all_below) ∙ c.if-not-all_below.false, lining_none _ _ _ _ c.requires.1)
 
 pub slice_bounds-build-count : goal.slice_bounds-build-count
 slice_bounds-build-count c = more-le _ 128 _ (room (goal.at.slice_bounds-build-count c).In-loop-i)
@@ -51,9 +49,6 @@ slice_bounds-build-start c = more-le _ 128 _ (room (goal.at.slice_bounds-build-s
 pub slice_bounds-build-end : goal.slice_bounds-build-end
 slice_bounds-build-end c = le_refl _
 
-pub bounds-numbers-i : goal.bounds-numbers-i
-bounds-numbers-i c = c.loop-i-test.true
-
 pub build-k-requires : goal.build-k-requires
 build-k-requires c =
     let taken = c.loop-i-test.true in
@@ -61,27 +56,15 @@ build-k-requires c =
 
 pub overflow_add-at : goal.overflow_add-at
 overflow_add-at c =
-    record { fits = edge-fits _ _ _ _ _ (room (goal.at.overflow_add-at c).In-loop-i) c.build-k.ensures.short c.requires.0.small c.loop-i.invariant.1.as_long c.well-formed.0.0 }
+    record { fits = edge-fits _ _ _ _ _ (room (goal.at.overflow_add-at c).In-loop-i) c.build-k.ensures.short c.requires.0.small c.loop-i.invariant.1.as_long (omega arith) }
 
 pub bounds-ends-i : goal.bounds-ends-i
 bounds-ends-i c =
     in_as_many _ _ _ _ c.loop-i-test.true c.requires.1.for_ends c.loop-i.invariant.1.as_many
-
-pub overflow_add-i : goal.overflow_add-i
-overflow_add-i c = record { fits = next_fits _ _ c.loop-i-test.true c.good.1.1.1.1.1.1.0.0 }
-
-pub loop-i-smaller : goal.loop-i-smaller
-loop-i-smaller c = left_one _ _ c.loop-i-test.true
 
 pub loop-i-preserved : goal.loop-i-preserved
 loop-i-preserved c =
     (c.loop-i.invariant.0, next-lined c.requires.0 c.args.numbers.now _ _ _ _ _ _ c.loop-i.invariant.1 _ _ c.loop-i-test.true (twice_most _ c.requires.0.small) c.build-k.ensures)
 
 pub returns : goal.returns
-returns c = all-lined c.pre.0 _ _ _ _ _ _ _ c.loop-i.invariant.1 c.loop-i.invariant.0 c.loop-i-test.false
-
--- TODO
--- | same_length : tie.Need-same-length invariant-loop decreases-loop
--- | same_length c = c.before.loop.invariant.1.as_long
--- | same-length-2 : tie.Need-same-length-2 invariant-loop decreases-loop
--- | same-length-2 c = c.before.loop.invariant.1.as_many
+returns c = all-lined c.requires.0 _ _ _ _ _ _ _ c.loop-i.invariant.1 c.loop-i.invariant.0 c.loop-i-test.false
