@@ -1,14 +1,11 @@
 -- `arch::build_all` meets its contract: by what is known of the block, and what is written with the family's counts. Assumes nothing.
-use mathlib.Core.Path.{◌≡◌, sym, ◌∙◌, subst}
+use mathlib.Core.Path.{◌≡◌, sym, ◌∙◌}
 use mathlib.Core.Bool.{true}
 use lib.ListN.{length}
-use borrow.Author.Rules.{rules}
 use Rattle.lines.specs.Lines.{Room}
 use Rattle.lines.proofs.Lining.{room_of}
 use Rattle.lines.proofs.Mines.{other-lines}
 use Rattle.lines.proofs.Knowing.{lines_no_room, lines_refusing, lines-ending}
-use Rattle.arch.specs.declared.known.Known.{Known}
-use Rattle.arch.specs.Calls.{KnownIs}
 use Rattle.arch.proofs.Tables.{table-less}
 use Rattle.arch.proofs.build_all.Goals as goal
 use Rattle.arch.proofs.build_all.Goals.{After-known_of}

@@ -1,16 +1,13 @@
 -- `arch::count` meets its contract: by what is known of the block, and from the family's table or recursion. Assumes nothing.
-use mathlib.Core.Path.{◌≡◌, refl, subst}
-use mathlib.Core.Bool.{true, false}
+use mathlib.Core.Path.{refl}
+use mathlib.Core.Bool.{false}
 use native.Mathlib.Omega.{arith}
-use borrow.Author.Rules.{rules}
 use Rattle.arches.proofs.Limits.{dyck_limit}
 use Rattle.rules.specs.Answers.{count_answer}
 use Rattle.job.specs.declared.Counted.TheVariants.{Count}
 use Rattle.lines.specs.declared.Counting.TheVariants.{NotMine}
 use Rattle.lines.proofs.Mines.{other-count}
 use Rattle.lines.proofs.Knowing.{count-never, count_refusing, count-ending}
-use Rattle.arch.specs.declared.known.Known.{Known}
-use Rattle.arch.specs.Calls.{KnownIs}
 use Rattle.arch.proofs.Calls.{count-of, table-count}
 use Rattle.arch.proofs.count.Goals as goal
 use Rattle.arch.proofs.count.Goals.{After-known_of}

@@ -1,14 +1,9 @@
 -- `arch::number_all` meets its contract: by what is known of the block, and by reading each edge with the family's counts. Assumes nothing.
-use mathlib.Core.Path.{◌≡◌, refl, subst}
+use mathlib.Core.Path.{refl}
 use mathlib.Core.Bool.{true}
-use lib.Dec.{leb}
-use lib.ListN.{length}
-use borrow.Author.Rules.{rules}
 use borrow.Author.Tests.{leb-true}
 use Rattle.lines.proofs.Mines.{other-ranks}
 use Rattle.lines.proofs.Knowing.{ranks_no_room, ranks_refusing, ranks-ending}
-use Rattle.arch.specs.declared.known.Known.{Known}
-use Rattle.arch.specs.Calls.{KnownIs}
 use Rattle.arch.proofs.Tables.{table-less}
 use Rattle.arch.proofs.number_all.Goals as goal
 use Rattle.arch.proofs.number_all.Goals.{After-known_of}

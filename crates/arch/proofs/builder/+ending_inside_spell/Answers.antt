@@ -1,7 +1,7 @@
 -- `spell`, `ending` and `inside` meet their contracts. What is written between the calls is kept, since each call leaves what is before and behind
 -- its path. The size falls at each part. Assumes nothing.
-use Rattle.std.proofs.Common.{◌<◌, ◌∙◌, length-set}
-use native.Mathlib.Nat.{le_refl, le_of_lt, pos_of_ne-zero}
+use Rattle.std.proofs.Common.{◌∙◌, length-set}
+use native.Mathlib.Nat.{le_refl, le_of_lt}
 use Rattle.arch.proofs.Sizes.{falls-first, in_as_many, span_less, first-le, first-less}
 use Rattle.arch.proofs.Tables.{table-less}
 use Rattle.arch.proofs.Spots.{above}
@@ -45,8 +45,7 @@ ending-spell-requires-2 t c =
     let spot = c.locate-p.ensures in
     let i = c.locate-p.result.at in
     let counted = c.requires.0.full i (first-le i a.v a.n spot.below) in
-    let around = insides a.n i c.requires.5 broad spot.below c.requires.2 c.requires.3 (spot_quot spot counted c.times-y.result c.times-y.ensures) c.inside-east.ensures in
-    (
+    let around = insides a.n i c.requires.5 broad spot.below c.requires.2 c.requires.3 (spot_quot spot counted c.times-y.result c.times-y.ensures) c.inside-east.ensures in (
       falls-first _ _ _ c.decreases (first-less i a.v a.n c.requires.5 spot.below),
       (
         table-less a.d a.v a.n i a.table.now (first-le i a.v a.n spot.below) c.requires.0,

@@ -1,6 +1,5 @@
 -- `arch::builder::build` meets its contract: the spelt path is put to the front of the bytes, where there is room. Assumes nothing.
 use Rattle.arch.proofs.Writing.{spelt-whole, put_in_front}
-use borrow.Author.Rules.{rules}
 use Rattle.arch.proofs.builder.build.Goals as goal
 
 pub slice_bounds-put-end : goal.slice_bounds-put-end

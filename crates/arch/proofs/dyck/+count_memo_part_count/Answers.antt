@@ -1,6 +1,6 @@
 -- `count_memo` and `part_count` meet their contracts: the loop holds the products from i up to the middle; what the memo has is right before
 -- and after each call, and stays. The n of each part is smaller, and a part that is not known is worked out at its own n. Assumes nothing.
-use Rattle.std.proofs.Common.{◌≡◌, ◌≢◌, ℕ, ◌+◌, ◌-◌, ◌*◌, ◌/◌, ◌%◌, ◌^◌, ◌<◌, ◌≤◌, List, length, refl, ◌∙◌, arith}
+use Rattle.std.proofs.Common.{◌≡◌, ◌≢◌, ℕ, ◌+◌, ◌-◌, ◌*◌, ◌/◌, ◌%◌, ◌^◌, ◌<◌, ◌≤◌, List, length, refl, arith}
 use native.Mathlib.Nat.{le_trans, pos_of_ne-zero, sub-le, div-le_self}
 use Rattle.arch.specs.Memo.{Filled, Good}
 use Rattle.arch.proofs.Sizes.{none_left, sum-parts, half_back, back_on}
@@ -50,8 +50,7 @@ count_memo-overflow_add-sum t c =
 
 pub count_memo-loop-i-preserved : goal.count_memo-loop-i-preserved
 count_memo-loop-i-preserved t c =
-    let inv = c.loop-i.invariant in
-    (
+    let inv = c.loop-i.invariant in (
       le_trans (sub-le _ 1) inv.0,
       c.part_count-b.ensures.1,
       kept_on (kept_on inv.2 c.part_count-a.ensures.2) c.part_count-b.ensures.2,

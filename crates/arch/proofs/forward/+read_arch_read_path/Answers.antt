@@ -1,11 +1,10 @@
 -- `read_arch` and `read_path` meet their contracts. What is known of the arch that the loop has read is said once, in numbers of its own, by the
 -- laws of `Reading`. What is left of the bytes falls at each call of `read_arch`, which hands on as many as it has. Assumes nothing.
-use Rattle.std.proofs.Common.{◌≡◌, Bool, true, false, ℕ, ◌+◌, ◌-◌, ◌*◌, ◌^◌, ◌<◌, ◌≤◌, List, length, get_or, add-one-le}
+use Rattle.std.proofs.Common.{◌≡◌, Bool, true, ℕ, ◌+◌, ◌-◌, ◌*◌, ◌^◌, ◌<◌, List, length, get_or, add-one-le}
 use native.Mathlib.Nat.{sub-le}
-use Rattle.arches.specs.Counts.{count}
 use Rattle.arch.specs.Table.{Table}
 use Rattle.arch.specs.Sums.{offset}
-use Rattle.arch.specs.Reading.{Begun, PathRead, ArchRead, ArchGot}
+use Rattle.arch.specs.Reading.{Begun, ArchRead, ArchGot}
 use Rattle.arch.proofs.Sizes.{falls-less, parts_fit}
 use Rattle.arch.proofs.Tables.{table-less}
 use Rattle.arch.proofs.Reading.{path_good, path-bad, arch_good, arch-bad, begun-start, begun-fits, moves, no_room, with_dee, arch-falls, no_arch, with_arch}

@@ -1,7 +1,6 @@
 -- `arch::forward::number` meets its contract: all of the bytes are read, and to (n, n), or no walk goes by them. Assumes nothing.
 use Rattle.arch.specs.Reading.{PathRead}
 use Rattle.arch.proofs.Reading.{path_good, path-bad, none-way, none-long, none-size, is_edge_lem}
-use borrow.Author.Rules.{rules}
 use Rattle.arch.proofs.forward.number.Goals as goal
 use Rattle.arch.proofs.forward.number.Goals.{Else-not-p}
 

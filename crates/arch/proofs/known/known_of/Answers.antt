@@ -1,7 +1,6 @@
 -- `arch::known::known_of` meets its contract: each return by the tests that led there. Assumes nothing.
 use mathlib.Core.Path.{◌≡◌}
 use mathlib.Core.Bool.{true}
-use borrow.Author.Rules.{rules}
 use borrow.Author.Tests.{not-true, not-false}
 use Rattle.rules.specs.Jobs.Job.{dyck, schroder, motzkin}
 use Rattle.rules.specs.Blocks.{family_of, square}

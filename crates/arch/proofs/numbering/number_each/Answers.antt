@@ -1,13 +1,11 @@
 -- `arch::numbering::number_each` meets its contract: an edge more at each turn. Assumes nothing.
 use mathlib.Core.Path.{◌≡◌}
-use Prim.Native.Nat.{◌-◌}
-use lib.ListN.{length, get_or}
-use borrow.Author.Rules.{rules}
+use lib.ListN.{get_or}
 use Rattle.rules.specs.Valid.{is_edge}
 use Rattle.rules.specs.Numbers.{number_of}
 use Rattle.rules.specs.Packs.{part_of}
 use Rattle.lines.specs.declared.Rank.{Rank}
-use Rattle.lines.proofs.Ranking.{Ranking, ranking_none, ranking_room, ranking_next, ranking_stop, ranking_all, part-rank}
+use Rattle.lines.proofs.Ranking.{ranking_none, ranking_room, ranking_next, ranking_stop, ranking_all, part-rank}
 use Rattle.arch.specs.Answers.{arch_job, RankOf}
 use Rattle.arch.proofs.Calls.{numbers_of}
 use Rattle.arch.proofs.numbering.number_each.Goals as goal

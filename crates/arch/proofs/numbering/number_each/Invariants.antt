@@ -1,15 +1,10 @@
 -- `arch::numbering::number_each` meets its contract: an edge more at each turn. Assumes nothing.
-use mathlib.Core.Path.{◌≡◌}
 use Prim.Native.Nat.{◌-◌}
-use lib.ListN.{length, get_or}
-use borrow.Author.Rules.{rules}
+use lib.ListN.{length}
 use Rattle.rules.specs.Valid.{is_edge}
 use Rattle.rules.specs.Numbers.{number_of}
-use Rattle.rules.specs.Packs.{part_of}
-use Rattle.lines.specs.declared.Rank.{Rank}
-use Rattle.lines.proofs.Ranking.{Ranking, ranking_none, ranking_room, ranking_next, ranking_stop, ranking_all, part-rank}
-use Rattle.arch.specs.Answers.{arch_job, RankOf}
-use Rattle.arch.proofs.Calls.{numbers_of}
+use Rattle.lines.proofs.Ranking.{Ranking}
+use Rattle.arch.specs.Answers.{arch_job}
 use Rattle.arch.proofs.numbering.number_each.Given as goal
 
 abbrev pub invariant-loop-i : goal.invariant-loop-i

@@ -1,20 +1,16 @@
 -- `arch::output::write_edges` meets its contract: each edge is built where the one before it ends. Assumes nothing.
 use mathlib.Core.Path.{◌≡◌, sym, ◌∙◌}
-use mathlib.Core.Bool.{true}
-use Prim.Native.Nat.{◌+◌, ◌-◌, ◌≤◌}
+use Prim.Native.Nat.{◌+◌, ◌≤◌}
 use native.Mathlib.Nat.{le_refl}
 use lib.ListN.{length}
 use native.Mathlib.Omega.{arith}
-use borrow.Author.Tests.{not-true, not-false}
 use Rattle.howmany.proofs.Choices.{holds}
 use Rattle.arches.specs.Counts.{count}
 use Rattle.rules.specs.Questions.{all_below}
 use Rattle.rules.proofs.Belows.{below_at}
-use Rattle.lines.proofs.Lining.{Lining, lining_none, lining_room, lining_part}
-use Rattle.arch.proofs.Sizes.{more-le, left_one, in_table, byte_fits, next_fits, edge-fits, twice_most, twice_le, in_as_many}
-use Rattle.arch.proofs.Calls.{edge_by}
+use Rattle.lines.proofs.Lining.{lining_none, lining_room, lining_part}
+use Rattle.arch.proofs.Sizes.{more-le, in_table, byte_fits, edge-fits, twice_most, twice_le, in_as_many}
 use Rattle.arch.proofs.Lined.{all_told, none-lined, next-lined, all-lined}
-use borrow.Author.Rules.{rules}
 use Rattle.arch.proofs.output.write_edges.Goals as goal
 use Rattle.arch.proofs.output.write_edges.Goals.{After-all_below, In-loop-i}
 

@@ -2,7 +2,6 @@
 -- Assumes nothing.
 use Rattle.arch.proofs.ReadingBack.{got_good, got-bad, none-way, none-front, none-size, is_edge_lem}
 use Rattle.arch.specs.ReadingBack.{Ok}
-use borrow.Author.Rules.{rules}
 use Rattle.arch.proofs.reverse.number.Goals as goal
 use Rattle.arch.proofs.reverse.number.Goals.{Else-not-p}
 

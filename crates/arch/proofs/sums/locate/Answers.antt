@@ -4,7 +4,7 @@ use Prim.Native.Nat.{◌*◌}
 use native.Mathlib.Omega.{arith}
 use lib.ListN.{get_or}
 use Rattle.arches.specs.Counts.{count}
-use Rattle.arch.proofs.Spots.{Between, between_start, falls-left, falls-right, closer, pair_is, pair_fits}
+use Rattle.arch.proofs.Spots.{between_start, falls-left, falls-right, closer, pair_is, pair_fits}
 use Rattle.arch.proofs.sums.locate.Goals as goal
 use Rattle.arch.proofs.sums.locate.Goals.{At-loop-low}
 

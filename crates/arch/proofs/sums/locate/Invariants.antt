@@ -1,10 +1,5 @@
 -- `arch::sums::locate` meets its contract: the loop keeps r between both sides, which move closer. Assumes nothing.
-use mathlib.Core.Path.{◌≡◌}
-use Prim.Native.Nat.{◌*◌}
-use native.Mathlib.Omega.{arith}
-use lib.ListN.{get_or}
-use Rattle.arches.specs.Counts.{count}
-use Rattle.arch.proofs.Spots.{Between, between_start, falls-left, falls-right, closer, pair_is, pair_fits}
+use Rattle.arch.proofs.Spots.{Between}
 use Rattle.arch.proofs.sums.locate.Given as goal
 
 abbrev pub invariant-loop-low : goal.invariant-loop-low

@@ -5,7 +5,6 @@ use native.Mathlib.Omega.{arith}
 use lib.ListN.{get_or}
 use Rattle.arch.specs.Sums.{offset}
 use Rattle.arch.proofs.Sides.{near, far, offset-fits}
-use borrow.Author.Rules.{rules}
 use Rattle.arch.proofs.sums.lower.Goals as goal
 use Rattle.arch.proofs.sums.lower.Goals.{After-d_count-h, After-products-s-else-i-j}
 

@@ -1,10 +1,7 @@
 -- `arch::sums::products` meets its contract: the loop holds the products below j; each sum is part of a count that fits. Assumes nothing.
-use mathlib.Core.Path.{◌≡◌, ap, ◌∙◌}
-use Prim.Native.Nat.{◌+◌, ◌-◌, ◌*◌, ◌^◌, ◌≤◌, ◌<◌}
-use native.Mathlib.Omega.{arith}
-use lib.ListN.{get_or}
-use Rattle.arches.specs.Counts.{count, before}
-use Rattle.arch.proofs.Tables.{term_is, terms_fit, before-none, before-next}
+use mathlib.Core.Path.{◌≡◌}
+use Prim.Native.Nat.{◌-◌, ◌≤◌}
+use Rattle.arches.specs.Counts.{before}
 use Rattle.arch.proofs.sums.products.Given as goal
 
 abbrev pub invariant-loop-j : goal.invariant-loop-j
