@@ -9,7 +9,7 @@ returns : tie.Need-returns
 returns c = fence-free _ _ c.if1.true
 
 mul-rise : tie.Need-overflow-mul-rise
-mul-rise c = let h = mul_bound c.before.before.args.f.slope c.before.before.args.x 100 97 c.before.before.requires.0.slope-le c.before.before.requires.1 in omega arith
+mul-rise c = let h = mul_bound c.before.before.args.f.slope c.before.before.args.x 100 97 c.before.before.requires.0.slope_le c.before.before.requires.1 in omega arith
 
 returns-2 : tie.Need-returns-2
 returns-2 c = fence-under _ _ c.if2.true

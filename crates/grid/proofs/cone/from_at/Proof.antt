@@ -13,7 +13,7 @@ found = search rules
 
 add-if1 : tie.Need-overflow-add-if1
 add-if1 c =
-    let h = mul_bound c.before.before.args.f.slope c.before.before.args.x 100 97 c.before.before.requires.0.slope-le (omega arith) in
+    let h = mul_bound c.before.before.args.f.slope c.before.before.args.x 100 97 c.before.before.requires.0.slope_le (omega arith) in
     let g = mul_bound c.before.before.args.hi (c.before.before.args.ex - c.before.before.args.x) 1000 97 (omega arith) (omega arith) in
     omega (arith, c.fence-at.ensures.most, c.before.reach_of.ensures.0)
 

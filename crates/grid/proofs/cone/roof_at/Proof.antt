@@ -10,10 +10,10 @@ returns : tie.Need-returns
 returns c = roof_free _ _ _ (not-true _ c.if1.true)
 
 mul-roof : tie.Need-overflow-mul-roof
-mul-roof c = let h = mul_bound c.before.before.before.args.f.slope c.before.before.before.args.x 100 97 c.before.before.before.requires.0.slope-le c.before.before.before.requires.1 in omega arith
+mul-roof c = let h = mul_bound c.before.before.before.args.f.slope c.before.before.before.args.x 100 97 c.before.before.before.requires.0.slope_le c.before.before.before.requires.1 in omega arith
 
 add-roof : tie.Need-overflow-add-roof
-add-roof c = let h = mul_bound c.before.before.before.before.args.f.slope c.before.before.before.before.args.x 100 97 c.before.before.before.before.requires.0.slope-le c.before.before.before.before.requires.1 in omega (arith, c.before.before.before.before.requires.0.start-le)
+add-roof c = let h = mul_bound c.before.before.before.before.args.f.slope c.before.before.before.before.args.x 100 97 c.before.before.before.before.requires.0.slope_le c.before.before.before.before.requires.1 in omega (arith, c.before.before.before.before.requires.0.start_le)
 
 returns-2 : tie.Need-returns-2
 returns-2 c = roof_low _ _ _ (not-false _ c.before.before.before.if1.false) c.if2.true

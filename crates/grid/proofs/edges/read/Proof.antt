@@ -31,7 +31,7 @@ sub-i : tie.Need-overflow-sub-i invariant-loop decreases-loop
 sub-i c = c.loop-test.true
 
 shared-slice-read-ordinal-of : tie.Need-shared-slice-read-ordinal-of invariant-loop decreases-loop
-shared-slice-read-ordinal-of c = omega (arith, (one c.before.before.loop.invariant).i-le)
+shared-slice-read-ordinal-of c = omega (arith, (one c.before.before.loop.invariant).i_le)
 
 ordinal-of-requires : tie.Need-ordinal-of-requires invariant-loop decreases-loop
 ordinal-of-requires c κs = tt

@@ -46,7 +46,7 @@ same_length : tie.Need-same-length invariant-loop decreases-loop
 same_length c = c.before.loop.invariant.0
 
 returns : tie.Need-returns invariant-loop decreases-loop
-returns c = ((one c.before.loop.invariant.1).writing.s-le, λ sa sc fu. let w = (c.before.loop.invariant.1.all sa sc fu).writing in (writing-end w (writing-done w c.before.before.before.start_of.ensures c.loop-test.false)).1)
+returns c = ((one c.before.loop.invariant.1).writing.s_le, λ sa sc fu. let w = (c.before.loop.invariant.1.all sa sc fu).writing in (writing-end w (writing-done w c.before.before.before.start_of.ensures c.loop-test.false)).1)
 
 pub spell-spec : {M : Type 1} → statement M
 spell-spec =

@@ -25,7 +25,7 @@ source-requires : tie.Need-source-requires invariant-loop decreases-loop
 source-requires c κs = (omega arith, c.before.before.before.before.requires.back _ (omega arith))
 
 cell-requires : tie.Need-cell-requires invariant-loop decreases-loop
-cell-requires c κs = (omega (arith, c.source.ensures, c.before.before.before.before.before.requires.in-val c.before.before.loop.i (omega arith)), omega (arith, c.source.ensures, c.before.before.before.before.before.requires.in-ov c.before.before.loop.i (omega arith)))
+cell-requires c κs = (omega (arith, c.source.ensures, c.before.before.before.before.before.requires.in_val c.before.before.loop.i (omega arith)), omega (arith, c.source.ensures, c.before.before.before.before.before.requires.in_ov c.before.before.loop.i (omega arith)))
 
 -- what `search` finds
 found : tie.Need-enum-known-a invariant-loop decreases-loop × tie.Need-enum-told invariant-loop decreases-loop

@@ -9,10 +9,10 @@ is-fenced-requires : tie.Need-is-fenced-requires
 is-fenced-requires c κs = tt
 
 returns : tie.Need-returns
-returns c = ap (λ t. fence_of (pick t 3 0) 0) (sym c.if1.true ∙ c.before.is-fenced.ensures)
+returns c = ap (λ t. fence_of (pick t 3 0) 0) (sym c.if1.true ∙ c.before.is_fenced.ensures)
 
 returns-2 : tie.Need-returns-2
-returns-2 c = ap (λ t. fence_of (pick t 3 0) 0) (sym c.if1.false ∙ c.before.is-fenced.ensures)
+returns-2 c = ap (λ t. fence_of (pick t 3 0) 0) (sym c.if1.false ∙ c.before.is_fenced.ensures)
 
 pub fence-of-spec : {M : Type 1} → statement M
 fence-of-spec = tie.close (tie.spec is-fenced-requires returns returns-2)

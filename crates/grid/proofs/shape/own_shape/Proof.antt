@@ -35,16 +35,16 @@ array-read-wide-2 : tie.Need-array-read-wide-2 invariant-loop decreases-loop
 array-read-wide-2 c = omega (arith, c.before.before.before.before.before.before.wide3.ensures, c.before.before.before.before.before.before.before.before.before.requires.few)
 
 mul-sc : tie.Need-overflow-mul-sc invariant-loop decreases-loop
-mul-sc c = omega (arith, c.before.wide4.ensures, c.before.before.before.before.before.before.before.before.before.before.requires.a-least c.before.before.before.before.loop.i (omega (arith, c.before.before.before.before.before.before.before.wide3.ensures)), c.before.before.before.before.before.before.before.before.before.before.requires.a-most c.before.before.before.before.loop.i (omega (arith, c.before.before.before.before.before.before.before.wide3.ensures)))
+mul-sc c = omega (arith, c.before.wide4.ensures, c.before.before.before.before.before.before.before.before.before.before.requires.a_least c.before.before.before.before.loop.i (omega (arith, c.before.before.before.before.before.before.before.wide3.ensures)), c.before.before.before.before.before.before.before.before.before.before.requires.a_most c.before.before.before.before.loop.i (omega (arith, c.before.before.before.before.before.before.before.wide3.ensures)))
 
 add-sc : tie.Need-overflow-add-sc invariant-loop decreases-loop
-add-sc c = omega (arith, c.before.wide4.ensures, c.wide5.ensures, c.before.before.before.before.before.before.before.before.before.before.requires.a-least c.before.before.before.before.loop.i (omega (arith, c.before.before.before.before.before.before.before.wide3.ensures)), c.before.before.before.before.before.before.before.before.before.before.requires.a-most c.before.before.before.before.loop.i (omega (arith, c.before.before.before.before.before.before.before.wide3.ensures)), c.before.before.before.before.before.before.before.before.before.before.requires.b-least c.before.before.before.before.loop.i (omega (arith, c.before.before.before.before.before.before.before.wide3.ensures)), c.before.before.before.before.before.before.before.before.before.before.requires.b-most c.before.before.before.before.loop.i (omega (arith, c.before.before.before.before.before.before.before.wide3.ensures)))
+add-sc c = omega (arith, c.before.wide4.ensures, c.wide5.ensures, c.before.before.before.before.before.before.before.before.before.before.requires.a_least c.before.before.before.before.loop.i (omega (arith, c.before.before.before.before.before.before.before.wide3.ensures)), c.before.before.before.before.before.before.before.before.before.before.requires.a_most c.before.before.before.before.loop.i (omega (arith, c.before.before.before.before.before.before.before.wide3.ensures)), c.before.before.before.before.before.before.before.before.before.before.requires.b_least c.before.before.before.before.loop.i (omega (arith, c.before.before.before.before.before.before.before.wide3.ensures)), c.before.before.before.before.before.before.before.before.before.before.requires.b_most c.before.before.before.before.loop.i (omega (arith, c.before.before.before.before.before.before.before.wide3.ensures)))
 
 sub-sc : tie.Need-overflow-sub-sc invariant-loop decreases-loop
-sub-sc c = omega (arith, c.before.wide4.ensures, c.wide5.ensures, c.before.before.before.before.before.before.before.before.before.before.requires.a-least c.before.before.before.before.loop.i (omega (arith, c.before.before.before.before.before.before.before.wide3.ensures)), c.before.before.before.before.before.before.before.before.before.before.requires.a-most c.before.before.before.before.loop.i (omega (arith, c.before.before.before.before.before.before.before.wide3.ensures)), c.before.before.before.before.before.before.before.before.before.before.requires.b-least c.before.before.before.before.loop.i (omega (arith, c.before.before.before.before.before.before.before.wide3.ensures)), c.before.before.before.before.before.before.before.before.before.before.requires.b-most c.before.before.before.before.loop.i (omega (arith, c.before.before.before.before.before.before.before.wide3.ensures)))
+sub-sc c = omega (arith, c.before.wide4.ensures, c.wide5.ensures, c.before.before.before.before.before.before.before.before.before.before.requires.a_least c.before.before.before.before.loop.i (omega (arith, c.before.before.before.before.before.before.before.wide3.ensures)), c.before.before.before.before.before.before.before.before.before.before.requires.a_most c.before.before.before.before.loop.i (omega (arith, c.before.before.before.before.before.before.before.wide3.ensures)), c.before.before.before.before.before.before.before.before.before.before.requires.b_least c.before.before.before.before.loop.i (omega (arith, c.before.before.before.before.before.before.before.wide3.ensures)), c.before.before.before.before.before.before.before.before.before.before.requires.b_most c.before.before.before.before.loop.i (omega (arith, c.before.before.before.before.before.before.before.wide3.ensures)))
 
 array-write-sc : tie.Need-array-write-sc invariant-loop decreases-loop
-array-write-sc c = omega (arith, c.before.before.before.before.before.before.before.wide3.ensures, c.before.before.before.before.before.before.before.before.before.before.requires.few, (c.before.before.before.before.loop.invariant.1.so_far (omega arith)).eight-too)
+array-write-sc c = omega (arith, c.before.before.before.before.before.before.before.wide3.ensures, c.before.before.before.before.before.before.before.before.before.before.requires.few, (c.before.before.before.before.loop.invariant.1.so_far (omega arith)).eight_too)
 
 loop-again : tie.Need-loop-preserved invariant-loop decreases-loop
 loop-again c =

@@ -46,7 +46,7 @@ add_at c =
     search rules
 
 slice-write-ends : tie.Need-slice-write-ends invariant-loop decreases-loop
-slice-write-ends c = omega (arith, (one c.before.before.before.before.before.before.loop.invariant).as_many, c.before.before.before.before.before.before.before.before.before.before.before.requires.2.for-ends)
+slice-write-ends c = omega (arith, (one c.before.before.before.before.before.before.loop.invariant).as_many, c.before.before.before.before.before.before.before.before.before.before.before.requires.2.for_ends)
 
 loop-less : tie.Need-loop-smaller invariant-loop decreases-loop
 loop-less c = omega arith

@@ -5,7 +5,7 @@ use Rattle.grid.proofs.table.fill.Statement.{statement}
 use Rattle.grid.proofs.table.fill.Tie as tie
 
 spans-requires : tie.Need-spans-requires
-spans-requires c κs = ((c.before.before.before.before.requires.0.ready.sizes.wall-le, c.before.before.before.before.requires.0.ready.sizes.hi-le, c.before.before.before.before.requires.1, c.before.before.before.before.requires.0.ready.sizes.ey-le), (omega arith, omega arith))
+spans-requires c κs = ((c.before.before.before.before.requires.0.ready.sizes.wall_le, c.before.before.before.before.requires.0.ready.sizes.hi_le, c.before.before.before.before.requires.1, c.before.before.before.before.requires.0.ready.sizes.ey_le), (omega arith, omega arith))
 
 columns-requires : tie.Need-columns-requires
 columns-requires c κs = (c.before.before.before.before.before.before.before.before.requires.0, c.before.before.before.spans.ensures)

@@ -2,12 +2,8 @@
 use Rattle.howmany.specs.Sum.{sum}
 use Rattle.arches.specs.Counts.{counts}
 use Rattle.arch.proofs.Constants.{turned, upwards, motzkin-table}
-use Rattle.arch.proofs.counts.motzkin_counts.Statement.{statement}
-use Rattle.arch.proofs.counts.motzkin_counts.Tie as tie
+use Rattle.arch.proofs.counts.motzkin_counts.Goals as goal
 
-returns : tie.Need-returns
+pub returns : goal.returns
 unfolding upwards turned counts sum
 returns c = motzkin-table
-
-pub motzkin-counts-spec : {M : Type 1} → statement M
-motzkin-counts-spec = tie.close (tie.spec returns)

@@ -2,12 +2,8 @@
 use Rattle.howmany.specs.Sum.{sum}
 use Rattle.arches.specs.Counts.{counts}
 use Rattle.arch.proofs.Constants.{turned, upwards, schroder-table}
-use Rattle.arch.proofs.counts.schroder_counts.Statement.{statement}
-use Rattle.arch.proofs.counts.schroder_counts.Tie as tie
+use Rattle.arch.proofs.counts.schroder_counts.Goals as goal
 
-returns : tie.Need-returns
+pub returns : goal.returns
 unfolding upwards turned counts sum
 returns c = schroder-table
-
-pub schroder-counts-spec : {M : Type 1} → statement M
-schroder-counts-spec = tie.close (tie.spec returns)
