@@ -83,7 +83,7 @@ mul-ends c = search rules
 slice-write-ends : tie.Need-slice-write-ends invariant-loop decreases-loop
 slice-write-ends c =
     let at = c.before.before.before.before.before.before in
-    in_as_many _ _ _ _ c.before.before.before.before.before.loop-test.true (start at).requires.1.for-ends at.loop.invariant.1.as_many
+    in_as_many _ _ _ _ c.before.before.before.before.before.loop-test.true (start at).requires.1.for_ends at.loop.invariant.1.as_many
 
 add-i : tie.Need-overflow-add-i invariant-loop decreases-loop
 add-i c = record { fits = next_fits _ _ c.before.before.before.before.before.loop-test.true (start c.before.before.before.before.before.before).good.1.1.1.1.1.1.0.0 }

@@ -19,7 +19,7 @@ returns c =
     refusing_told _ start.requires refl (told_of_lem _ c.before.of.result c.before.of.ensures c.if1.true)
 
 plain-of-requires : tie.Need-plain-of-requires
-plain-of-requires c κs = (plain-level _ _ (kept c) c.before.before.before.requires).m-least
+plain-of-requires c κs = (plain-level _ _ (kept c) c.before.before.before.requires).m_least
 
 returns-2 : tie.Need-returns-2
 returns-2 c =

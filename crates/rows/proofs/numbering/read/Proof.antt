@@ -64,7 +64,7 @@ shared-slice-read-b : tie.Need-shared-slice-read-b invariant-loop decreases-loop
 shared-slice-read-b c = reading_in (turn c.before)
 
 sub_at : tie.Need-overflow-sub-at invariant-loop decreases-loop
-sub_at c = (reading-near (turn c.before.before)).north-back
+sub_at c = (reading-near (turn c.before.before)).north_back
 
 loop-less : tie.Need-loop-smaller invariant-loop decreases-loop
 loop-less c = omega (arith, (turn c.before.before).more)
@@ -73,19 +73,19 @@ loop-again : tie.Need-loop-preserved invariant-loop decreases-loop
 loop-again c = north-led (turn c.before.before) c.if2.true
 
 sub-acc : tie.Need-overflow-sub-acc invariant-loop decreases-loop
-sub-acc c = (reading-near (turn c.before.before.before)).north-back
+sub-acc c = (reading-near (turn c.before.before.before)).north_back
 
 mul-acc : tie.Need-overflow-mul-acc invariant-loop decreases-loop
-mul-acc c = omega (arith, (reading-near (turn c.before.before.before)).north-in)
+mul-acc c = omega (arith, (reading-near (turn c.before.before.before)).north_in)
 
 shared-slice-read-acc : tie.Need-shared-slice-read-acc invariant-loop decreases-loop
-shared-slice-read-acc c = (reading-near (turn c.before.before.before.before)).north-in
+shared-slice-read-acc c = (reading-near (turn c.before.before.before.before)).north_in
 
 add-acc : tie.Need-overflow-add-acc invariant-loop decreases-loop
 add-acc c = record { fits = east-fits (turn c.before.before.before.before) }
 
 sub-at-2 : tie.Need-overflow-sub-at-2 invariant-loop decreases-loop
-sub-at-2 c = (reading-near (turn c.before.before.before.before)).east-back
+sub-at-2 c = (reading-near (turn c.before.before.before.before)).east_back
 
 loop-less-2 : tie.Need-loop-smaller-2 invariant-loop decreases-loop
 loop-less-2 c = omega (arith, (turn c.before.before.before.before).more)
@@ -106,22 +106,22 @@ returns-3 : tie.Need-returns-3 invariant-loop decreases-loop
 returns-3 c = across-left (turn c.before.before.before.before.before.before) c.before.before.before.before.if2.false c.before.before.before.if3.false (across c.before) c.if5.true
 
 sub-acc-2 : tie.Need-overflow-sub-acc-2 invariant-loop decreases-loop
-sub-acc-2 c = (reading-near (turn c.before.before.before.before.before.before)).north-back
+sub-acc-2 c = (reading-near (turn c.before.before.before.before.before.before)).north_back
 
 mul-acc-2 : tie.Need-overflow-mul-acc-2 invariant-loop decreases-loop
-mul-acc-2 c = omega (arith, (reading-near (turn c.before.before.before.before.before.before)).north-in)
+mul-acc-2 c = omega (arith, (reading-near (turn c.before.before.before.before.before.before)).north_in)
 
 shared-slice-read-acc-2 : tie.Need-shared-slice-read-acc-2 invariant-loop decreases-loop
-shared-slice-read-acc-2 c = (reading-near (turn c.before.before.before.before.before.before.before)).north-in
+shared-slice-read-acc-2 c = (reading-near (turn c.before.before.before.before.before.before.before)).north_in
 
 sub-acc-3 : tie.Need-overflow-sub-acc-3 invariant-loop decreases-loop
-sub-acc-3 c = (reading-near (turn c.before.before.before.before.before.before.before)).east-back
+sub-acc-3 c = (reading-near (turn c.before.before.before.before.before.before.before)).east_back
 
 mul-acc-3 : tie.Need-overflow-mul-acc-3 invariant-loop decreases-loop
-mul-acc-3 c = omega (arith, (reading-near (turn c.before.before.before.before.before.before.before)).east-in)
+mul-acc-3 c = omega (arith, (reading-near (turn c.before.before.before.before.before.before.before)).east_in)
 
 shared-slice-read-acc-3 : tie.Need-shared-slice-read-acc-3 invariant-loop decreases-loop
-shared-slice-read-acc-3 c = (reading-near (turn c.before.before.before.before.before.before.before.before)).east-in
+shared-slice-read-acc-3 c = (reading-near (turn c.before.before.before.before.before.before.before.before)).east_in
 
 add-acc-2 : tie.Need-overflow-add-acc-2 invariant-loop decreases-loop
 add-acc-2 c = record { fits = (reading-near (turn c.before.before.before.before.before.before.before.before)).fits }
@@ -146,7 +146,7 @@ stride-of-requires : tie.Need-stride-of-requires invariant-loop decreases-loop
 stride-of-requires c κs = c.before.loop.invariant.full.ready.sizes
 
 add-if6 : tie.Need-overflow-add-if6 invariant-loop decreases-loop
-add-if6 c = record { fits = omega (arith, c.stride-of.ensures, c.before.before.loop.invariant.full.ready.sizes.ey-le) }
+add-if6 c = record { fits = omega (arith, c.stride-of.ensures, c.before.before.loop.invariant.full.ready.sizes.ey_le) }
 
 returns-4 : tie.Need-returns-4 invariant-loop decreases-loop
 returns-4 c = led-out _ c.before.before.before.loop.invariant c.before.before.loop-test.false (λ e. omega (arith, e, c.if6.true, c.before.stride-of.ensures))

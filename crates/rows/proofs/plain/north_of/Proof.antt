@@ -10,7 +10,7 @@ found = search rules
 
 add-result : tie.Need-overflow-add-result
 add-result c =
-    omega (arith, c.before.before.requires.ey-le, c.before.stride-of.ensures, (east-up c.before.before.args.c c.rise-of.ensures).0)
+    omega (arith, c.before.before.requires.ey_le, c.before.stride-of.ensures, (east-up c.before.before.args.c c.rise-of.ensures).0)
 
 returns : tie.Need-returns
 returns c = search rules

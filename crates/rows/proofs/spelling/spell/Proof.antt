@@ -46,7 +46,7 @@ east-of-requires : tie.Need-east-of-requires invariant-loop decreases-loop
 east-of-requires c κs = c.before.before.before.requires.0.ready.sizes
 
 add-x : tie.Need-overflow-add-x invariant-loop decreases-loop
-add-x c = omega (arith, c.before.before.before.before.before.requires.0.ready.sizes.ex-le)
+add-x c = omega (arith, c.before.before.before.before.before.requires.0.ready.sizes.ex_le)
 
 end-of-requires : tie.Need-end-of-requires invariant-loop decreases-loop
 end-of-requires c κs = c.before.before.before.before.before.requires.0.ready.sizes
@@ -58,13 +58,13 @@ sub-s : tie.Need-overflow-sub-s invariant-loop decreases-loop
 sub-s c = (spelling_room (own c)).0
 
 sub-a : tie.Need-overflow-sub-a invariant-loop decreases-loop
-sub-a c = (spelling_near (own c)).north-back
+sub-a c = (spelling_near (own c)).north_back
 
 mul-a : tie.Need-overflow-mul-a invariant-loop decreases-loop
-mul-a c = omega (arith, (spelling_near (own c)).north-in)
+mul-a c = omega (arith, (spelling_near (own c)).north_in)
 
 shared-slice-read-a : tie.Need-shared-slice-read-a invariant-loop decreases-loop
-shared-slice-read-a c = (spelling_near (own c.before)).north-in
+shared-slice-read-a c = (spelling_near (own c.before)).north_in
 
 slice-write-buf : tie.Need-slice-write-buf invariant-loop decreases-loop
 slice-write-buf c = (spelling_room (own c.before.before)).1
@@ -82,13 +82,13 @@ loop-again : tie.Need-loop-preserved invariant-loop decreases-loop
 loop-again c = (simp length-set c.before.before.before.loop.invariant.0, λ C g. (north-added (turn c.before.before C g) c.if1.true).next)
 
 sub-b : tie.Need-overflow-sub-b invariant-loop decreases-loop
-sub-b c = (spelling_near (own c.before.before)).east-back
+sub-b c = (spelling_near (own c.before.before)).east_back
 
 mul-b : tie.Need-overflow-mul-b invariant-loop decreases-loop
-mul-b c = omega (arith, (spelling_near (own c.before.before)).east-in)
+mul-b c = omega (arith, (spelling_near (own c.before.before)).east_in)
 
 shared-slice-read-b : tie.Need-shared-slice-read-b invariant-loop decreases-loop
-shared-slice-read-b c = (spelling_near (own c.before.before.before)).east-in
+shared-slice-read-b c = (spelling_near (own c.before.before.before)).east_in
 
 slice-write-buf-2 : tie.Need-slice-write-buf-2 invariant-loop decreases-loop
 slice-write-buf-2 c = (spelling_room (own c.before.before.before.before)).1

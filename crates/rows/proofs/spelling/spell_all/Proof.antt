@@ -40,7 +40,7 @@ add_at c =
 
 slice-write-ends : tie.Need-slice-write-ends invariant-loop decreases-loop
 slice-write-ends c =
-    omega (arith, c.before.before.before.before.before.before.loop.invariant.as_many, c.before.before.before.before.before.before.before.before.before.before.before.requires.2.for-ends)
+    omega (arith, c.before.before.before.before.before.before.loop.invariant.as_many, c.before.before.before.before.before.before.before.before.before.before.before.requires.2.for_ends)
 
 loop-less : tie.Need-loop-smaller invariant-loop decreases-loop
 loop-less c = omega arith

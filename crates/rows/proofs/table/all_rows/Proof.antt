@@ -20,7 +20,7 @@ lesser-requires : tie.Need-lesser-requires invariant-loop decreases-loop
 lesser-requires c κs = tt
 
 loop-holds : tie.Need-loop-init invariant-loop decreases-loop
-loop-holds c = (refl, omega arith, c.before.before.requires.ready, rows_none c.before.before.requires.zero-at)
+loop-holds c = (refl, omega arith, c.before.before.requires.ready, rows_none c.before.before.requires.zero_at)
 
 row-requires : tie.Need-row-requires invariant-loop decreases-loop
 row-requires c κs =
@@ -40,7 +40,7 @@ returns c = risen_over (c.before.before.before.row.ensures.over (not-true _ c.if
 
 add-y : tie.Need-overflow-add-y invariant-loop decreases-loop
 add-y c =
-    omega (arith, c.before.before.before.before.before.loop-test.true, c.before.before.before.before.before.before.before.lesser.ensures, c.before.before.before.before.before.before.before.before.before.requires.ready.sizes.ey-le)
+    omega (arith, c.before.before.before.before.before.loop-test.true, c.before.before.before.before.before.before.before.lesser.ensures, c.before.before.before.before.before.before.before.before.before.requires.ready.sizes.ey_le)
 
 loop-less : tie.Need-loop-smaller invariant-loop decreases-loop
 loop-less c =

@@ -41,7 +41,7 @@ stride-of-requires : tie.Need-stride-of-requires invariant-loop decreases-loop
 stride-of-requires c κs = c.before.requires.ready.sizes
 
 add-n : tie.Need-overflow-add-n invariant-loop decreases-loop
-add-n c = omega (arith, c.before.before.before.requires.ready.sizes.ex-le)
+add-n c = omega (arith, c.before.before.before.requires.ready.sizes.ex_le)
 
 lesser-requires : tie.Need-lesser-requires invariant-loop decreases-loop
 lesser-requires c κs = tt
@@ -50,7 +50,7 @@ sub-n : tie.Need-overflow-sub-n invariant-loop decreases-loop
 sub-n c = omega (arith, c.before.before.before.before.requires.steps.wide, c.lesser.ensures)
 
 add_at : tie.Need-overflow-add-at invariant-loop decreases-loop
-add_at c = omega (arith, c.before.before.before.before.requires.inside, c.before.before.before.before.requires.ready.sizes.ey-le)
+add_at c = omega (arith, c.before.before.before.before.requires.inside, c.before.before.before.before.requires.ready.sizes.ey_le)
 
 mul_at : tie.Need-overflow-mul-at invariant-loop decreases-loop
 mul_at c = omega (arith, (begins c).small)

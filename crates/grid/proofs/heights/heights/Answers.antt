@@ -1,0 +1,56 @@
+-- `grid::heights::heights` meets its contract: the heights are laid one by one. Assumes nothing.
+use mathlib.Core.Logic.{⊎_elim}
+use Prim.Native.Nat.{◌≤◌, ◌-◌}
+use native.Mathlib.Nat.{mul-le-mul}
+use native.Mathlib.Omega.{arith}
+use Rattle.tables.specs.Heights.{Heights}
+use Rattle.tables.proofs.Lowering.{Until, until_none, until_more, until_idle, until_all, heights_none, heights_more}
+use Rattle.grid.proofs.heights.heights.Goals as goal
+
+pub loop-i-init : goal.loop-i-init
+loop-i-init c = (omega arith, until_none (heights_none _ _ _ _))
+
+pub offset_bounds-sa-i : goal.offset_bounds-sa-i
+offset_bounds-sa-i c = omega (arith, c.requires.0.few)
+
+pub bounds-sa-i : goal.bounds-sa-i
+bounds-sa-i c = omega (arith, c.requires.0.few)
+
+pub overflow_mul-level : goal.overflow_mul-level
+overflow_mul-level c =
+    let p = c.requires in
+    omega (arith, mul-le-mul p.1.small (p.0.near c.loop-i.i (omega arith)))
+
+pub offset_bounds-sc-i : goal.offset_bounds-sc-i
+offset_bounds-sc-i c = omega (arith, c.requires.0.few)
+
+pub bounds-sc-i : goal.bounds-sc-i
+bounds-sc-i c = omega (arith, c.requires.0.few)
+
+pub height-requires : goal.height-requires
+height-requires c = c.requires.1.each _ (omega arith)
+
+pub offset_bounds-up-i : goal.offset_bounds-up-i
+offset_bounds-up-i c = omega (arith, c.requires.0.few)
+
+pub bounds-up-i : goal.bounds-up-i
+bounds-up-i c = omega (arith, c.requires.0.few, (c.loop-i.invariant.1.so_far (omega arith)).eight)
+
+pub overflow_add-i : goal.overflow_add-i
+overflow_add-i c = omega arith
+
+pub loop-i-smaller : goal.loop-i-smaller
+loop-i-smaller c = omega arith
+
+pub loop-i-preserved : goal.loop-i-preserved
+loop-i-preserved c =
+    let u = c.loop-i.invariant.1 in (
+      omega arith,
+      ⊎_elim
+          (λ w. rw w.4 (until_more w.0.taken (heights_more _ _ _ _ _ _ _ (u.so_far (omega arith)) (omega arith) w.3.ensures)))
+          (λ w. rw w.1 (until_idle w.0.left u))
+          c.if-i-k.branch,
+    )
+
+pub returns : goal.returns
+returns c = until_all c.loop-i.invariant.1 c.requires.0.few c.loop-i-test.false

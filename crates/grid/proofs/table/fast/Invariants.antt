@@ -1,0 +1,16 @@
+-- `grid::table::fast` meets its contract: column by column, while the next one needs no test. Assumes nothing.
+use mathlib.Core.Path.{◌≡◌, refl}
+use Prim.Native.Nat.{◌+◌, ◌≤◌, ◌-◌}
+use native.Mathlib.Omega.{arith}
+use lib.ListN.{length, length-set}
+use Rattle.tables.specs.Plans.{PreparedFor, TableFor, SmallFor}
+use Rattle.tables.proofs.Phases.{ready_len, first_in, begin_table, begin_small, begin_ready}
+use borrow.Author.Tests.{not-false}
+use Rattle.grid.proofs.table.fast.Given as goal
+
+abbrev pub invariant-loop-x : goal.invariant-loop-x
+invariant-loop-x l =
+    (1 ≤ l.x) × (l.x ≤ l.p.ex + 1) × (length l.val ≡ length l.initial.val) × PreparedFor l.p l.sa l.sc l.off (length l.val) × TableFor l.p l.sa l.sc l.val l.x × SmallFor l.p l.sa l.sc l.x
+
+abbrev pub decreases-loop-x : goal.decreases-loop-x
+decreases-loop-x l = l.p.ex + 1 - l.x
