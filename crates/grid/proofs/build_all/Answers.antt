@@ -7,7 +7,7 @@ use borrow.Author.Rules.{rules}
 use Rattle.grid.proofs.build_all.Goals as goal
 
 pub spell_edges-requires : goal.spell_edges-requires
-spell_edges-requires c κs = let h = rw c.in-Shaped.is at c.known_of-k.ensures in (h.shape, room_of _ _ _ (sym c.has_room.ensures ∙ h.ending.roomy))
+spell_edges-requires c = let h = rw c.in-Shaped.is at c.known_of-k.ensures in (h.shape, room_of _ _ _ (sym c.has_room.ensures ∙ h.ending.roomy))
 
 pub returns-in-NotMine : goal.returns-in-NotMine
 returns-in-NotMine c = other-lines (rw c.in-NotMine.is at c.known_of-k.ensures) _ _ _

@@ -6,7 +6,7 @@ use borrow.Author.Rules.{rules}
 use Rattle.grid.proofs.number_all.Goals as goal
 
 pub number_edges-requires : goal.number_edges-requires
-number_edges-requires c κs = let h = rw c.in-Shaped.is at c.known_of-k.ensures in (h.shape, roomed _ c.args.numbers.now refl h.ending.roomy)
+number_edges-requires c = let h = rw c.in-Shaped.is at c.known_of-k.ensures in (h.shape, roomed _ c.args.numbers.now refl h.ending.roomy)
 
 pub returns-in-NotMine : goal.returns-in-NotMine
 returns-in-NotMine c = other-ranks (rw c.in-NotMine.is at c.known_of-k.ensures) _ _

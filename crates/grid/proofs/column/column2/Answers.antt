@@ -5,10 +5,10 @@ use Rattle.grid.proofs.Sums.{Summing, summing_none, summing_more, summing_all, s
 use Rattle.grid.proofs.column.column2.Goals as goal
 
 pub source-s0-requires : goal.source-s0-requires
-source-s0-requires c = (below_8.0, c.requires.back 0 below_2.0)
+source-s0-requires c = record { i_bound = below_8.0; i_bound_2 = c.requires.back 0 below_2.0 }
 
 pub source-s1-requires : goal.source-s1-requires
-source-s1-requires c = (below_8.1, c.requires.back 1 below_2.1)
+source-s1-requires c = record { i_bound = below_8.1; i_bound_2 = c.requires.back 1 below_2.1 }
 
 pub loop-i-init : goal.loop-i-init
 loop-i-init c = (summing_none c.requires (omega (arith, c.requires.inside)), (source_at c.requires 0 below_2.0 c.source-s0.ensures, source_at c.requires 1 below_2.1 c.source-s1.ensures))
@@ -54,7 +54,3 @@ loop-i-preserved c = (summing_more c.loop-i.invariant.0 c.loop-i-test.true (turn
 
 pub returns : goal.returns
 returns c = summing_all c.loop-i.invariant.0 c.loop-i-test.false
-
--- TODO
--- | same_length : tie.Need-same-length invariant-loop decreases-loop
--- | same_length c = c.before.loop.invariant.0.as_long

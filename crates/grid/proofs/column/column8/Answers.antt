@@ -5,28 +5,28 @@ use Rattle.grid.proofs.Sums.{Summing, summing_none, summing_more, summing_all, s
 use Rattle.grid.proofs.column.column8.Goals as goal
 
 pub source-s0-requires : goal.source-s0-requires
-source-s0-requires c = (below_8.0, c.requires.back 0 below_8.0)
+source-s0-requires c = record { i_bound = below_8.0; i_bound_2 = c.requires.back 0 below_8.0 }
 
 pub source-s1-requires : goal.source-s1-requires
-source-s1-requires c = (below_8.1, c.requires.back 1 below_8.1)
+source-s1-requires c = record { i_bound = below_8.1; i_bound_2 = c.requires.back 1 below_8.1 }
 
 pub source-s2-requires : goal.source-s2-requires
-source-s2-requires c = (below_8.2, c.requires.back 2 below_8.2)
+source-s2-requires c = record { i_bound = below_8.2; i_bound_2 = c.requires.back 2 below_8.2 }
 
 pub source-s3-requires : goal.source-s3-requires
-source-s3-requires c = (below_8.3, c.requires.back 3 below_8.3)
+source-s3-requires c = record { i_bound = below_8.3; i_bound_2 = c.requires.back 3 below_8.3 }
 
 pub source-s4-requires : goal.source-s4-requires
-source-s4-requires c = (below_8.4, c.requires.back 4 below_8.4)
+source-s4-requires c = record { i_bound = below_8.4; i_bound_2 = c.requires.back 4 below_8.4 }
 
 pub source-s5-requires : goal.source-s5-requires
-source-s5-requires c = (below_8.5, c.requires.back 5 below_8.5)
+source-s5-requires c = record { i_bound = below_8.5; i_bound_2 = c.requires.back 5 below_8.5 }
 
 pub source-s6-requires : goal.source-s6-requires
-source-s6-requires c = (below_8.6, c.requires.back 6 below_8.6)
+source-s6-requires c = record { i_bound = below_8.6; i_bound_2 = c.requires.back 6 below_8.6 }
 
 pub source-s7-requires : goal.source-s7-requires
-source-s7-requires c = (below_8.7, c.requires.back 7 below_8.7)
+source-s7-requires c = record { i_bound = below_8.7; i_bound_2 = c.requires.back 7 below_8.7 }
 
 pub loop-i-init : goal.loop-i-init
 loop-i-init c = (summing_none c.requires (omega (arith, c.requires.inside)), (source_at c.requires 0 below_8.0 c.source-s0.ensures, source_at c.requires 1 below_8.1 c.source-s1.ensures, source_at c.requires 2 below_8.2 c.source-s2.ensures, source_at c.requires 3 below_8.3 c.source-s3.ensures, source_at c.requires 4 below_8.4 c.source-s4.ensures, source_at c.requires 5 below_8.5 c.source-s5.ensures, source_at c.requires 6 below_8.6 c.source-s6.ensures, source_at c.requires 7 below_8.7 c.source-s7.ensures))
@@ -144,7 +144,3 @@ loop-i-preserved c = (summing_more c.loop-i.invariant.0 c.loop-i-test.true (turn
 
 pub returns : goal.returns
 returns c = summing_all c.loop-i.invariant.0 c.loop-i-test.false
-
--- TODO
--- | same_length : tie.Need-same-length invariant-loop decreases-loop
--- | same_length c = c.before.loop.invariant.0.as_long

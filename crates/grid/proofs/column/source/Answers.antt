@@ -6,7 +6,7 @@ use Rattle.tables.specs.Cells.{source_of}
 use Rattle.grid.proofs.column.source.Goals as goal
 
 pub overflow_sub-result : goal.overflow_sub-result
-overflow_sub-result c = omega (arith, c.requires.1 (omega arith))
+overflow_sub-result c = omega (arith, c.requires.i_bound_2 (omega arith))
 
 pub returns-then-x-sa : goal.returns-then-x-sa
 unfolding source_of

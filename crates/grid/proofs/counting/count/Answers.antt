@@ -17,7 +17,7 @@ pub count_walks-requires : goal.count_walks-requires
 count_walks-requires c = (c.plan_of-p.ensures.planned, narrow-of c.if-state-eq1.false c.plan_of-p.ensures c.requires)
 
 pub returns-in-Count : goal.returns-in-Count
-returns-in-Count c = λ J w. counts-told J (plan_count J _ (state_working J _ w c.if-state-eq1.false).fits c.plan_of-p.ensures) c.count_Walks.ensures (ap counted_of (sym c.in-Count.is))
+returns-in-Count c = λ J w. counts-told J (plan_count J _ (state_working J _ w c.if-state-eq1.false).fits c.plan_of-p.ensures) c.count_walks.ensures (ap counted_of (sym c.in-Count.is))
 
 pub returns-in-Over : goal.returns-in-Over
-returns-in-Over c = λ J w. counts-told J (plan_count J _ (state_working J _ w c.if-state-eq1.false).fits c.plan_of-p.ensures) c.count_Walks.ensures (ap counted_of (sym c.in-Over.is))
+returns-in-Over c = λ J w. counts-told J (plan_count J _ (state_working J _ w c.if-state-eq1.false).fits c.plan_of-p.ensures) c.count_walks.ensures (ap counted_of (sym c.in-Over.is))

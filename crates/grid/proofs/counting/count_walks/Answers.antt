@@ -8,7 +8,7 @@ pub cells_of-cells-requires : goal.cells_of-cells-requires
 cells_of-cells-requires c = sizes_for c.requires.0 c.offsets-off.ensures
 
 pub count_small-requires : goal.count_small-requires
-count_small-requires c = (prepared_for c.requires.0 c.offsets-off.ensures c.Cells-of.ensures _ (omega arith), c.if-cells-le1280.true, c.requires.1)
+count_small-requires c = (prepared_for c.requires.0 c.offsets-off.ensures c.cells_of-cells.ensures _ (omega arith), c.if-cells-le1280.true, c.requires.1)
 
 pub count_large-requires : goal.count_large-requires
 count_large-requires c = (prepared-last c.requires.0 c.offsets-off.ensures, c.requires.1)

@@ -17,13 +17,13 @@ pub loop-at-init : goal.loop-at-init
 loop-at-init c = (refl, record { some = c.requires.0; all = λ sa sc fu. record { x = _; writing = writing_start false fu (omega (arith, c.requires.1, end_is fu)) c.requires.2 c.end_of-at.ensures } })
 
 pub seek-q-requires : goal.seek-q-requires
-seek-q-requires c κs = let w = (one c.loop-at.invariant.1).writing in seek_needs w (writing_more w c.start_of-start.ensures c.loop-at-test.true)
+seek-q-requires c = let w = (one c.loop-at.invariant.1).writing in let n = seek_needs w (writing_more w c.start_of-start.ensures c.loop-at-test.true) in record { summed = n.0; r_bound = n.1 }
 
 pub overflow_sub-s : goal.overflow_sub-s
 overflow_sub-s c = let w = (one c.loop-at.invariant.1).writing in (spell-room w (writing_more w c.start_of-start.ensures c.loop-at-test.true)).0
 
 pub glyph_of-requires : goal.glyph_of-requires
-glyph_of-requires c κs = let w = (one c.loop-at.invariant.1).writing in let px = writing_more w c.start_of-start.ensures c.loop-at-test.true in step_in w px (picked w px c.seek-q.ensures.0)
+glyph_of-requires c = let w = (one c.loop-at.invariant.1).writing in let px = writing_more w c.start_of-start.ensures c.loop-at-test.true in step_in w px (picked w px c.seek-q.ensures.0)
 
 pub bounds-buf-s : goal.bounds-buf-s
 bounds-buf-s c = let w = (one c.loop-at.invariant.1).writing in (spell-room w (writing_more w c.start_of-start.ensures c.loop-at-test.true)).1
@@ -36,7 +36,3 @@ loop-at-preserved c = (simp length-set c.loop-at.invariant.0, onto c.loop-at.inv
 
 pub returns : goal.returns
 returns c = ((one c.loop-at.invariant.1).writing.s_le, λ sa sc fu. let w = (c.loop-at.invariant.1.all sa sc fu).writing in (writing-end w (writing-done w c.start_of-start.ensures c.loop-at-test.false)).1)
-
--- TODO
--- | same_length : tie.Need-same-length invariant-loop decreases-loop
--- | same_length c = c.before.loop.invariant.0

@@ -14,7 +14,7 @@ unfolding sum
 loop-i-init c = (omega arith, omega arith, λ g says. refl)
 
 pub source-s-requires : goal.source-s-requires
-source-s-requires c = (omega arith, c.requires.back _ (omega arith))
+source-s-requires c = record { i_bound = omega arith; i_bound_2 = c.requires.back _ (omega arith) }
 
 pub cell-a-requires : goal.cell-a-requires
 cell-a-requires c = (omega (arith, c.source-s.ensures, c.requires.in_val c.loop-i.i (omega arith)), omega (arith, c.source-s.ensures, c.requires.in_ov c.loop-i.i (omega arith)))

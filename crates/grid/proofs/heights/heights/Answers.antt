@@ -6,6 +6,7 @@ use native.Mathlib.Omega.{arith}
 use Rattle.tables.specs.Heights.{Heights}
 use Rattle.tables.proofs.Lowering.{Until, until_none, until_more, until_idle, until_all, heights_none, heights_more}
 use Rattle.grid.proofs.heights.heights.Goals as goal
+use Rattle.grid.proofs.heights.heights.Goals.{then-i-k, else-i-k}
 
 pub loop-i-init : goal.loop-i-init
 loop-i-init c = (omega arith, until_none (heights_none _ _ _ _))
@@ -46,10 +47,10 @@ pub loop-i-preserved : goal.loop-i-preserved
 loop-i-preserved c =
     let u = c.loop-i.invariant.1 in (
       omega arith,
-      ⊎_elim
-          (λ w. rw w.4 (until_more w.0.taken (heights_more _ _ _ _ _ _ _ (u.so_far (omega arith)) (omega arith) w.3.ensures)))
-          (λ w. rw w.1 (until_idle w.0.left u))
-          c.if-i-k.branch,
+      elim c.if-i-k.branch [
+          then-i-k w ↦ ?
+        | else-i-k w ↦ ?
+      ],
     )
 
 pub returns : goal.returns

@@ -28,9 +28,3 @@ loop-i-preserved c =
 
 pub returns : goal.returns
 returns c = λ sa sc fu. ranking_all _ _ _ _ _ _ _ _ _ (c.loop-i.invariant.all sa sc fu) c.loop-i-test.false
-
--- TODO
--- | same_length : tie.Need-same-length invariant-loop decreases-loop
--- | same_length c = (one c.before.before.before.before.before.before.loop.invariant).as_many
--- | same-length-2 : tie.Need-same-length-2 invariant-loop decreases-loop
--- | same-length-2 c = (one c.before.loop.invariant).as_many

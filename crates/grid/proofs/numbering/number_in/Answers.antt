@@ -12,7 +12,7 @@ pub returns-in-Over : goal.returns-in-Over
 returns-in-Over c = ranks-over false c.args.p _ _ _ _ (filled_over c.fill.ensures c.in-Over.is)
 
 pub number_each-requires : goal.number_each-requires
-number_each-requires c = (record { sa = _; sc = _; readable = filled_readable c.fill.ensures c.in_default.is c.before.requires.0 (search rules) }, c.before.requires.2)
+number_each-requires c = (record { sa = _; sc = _; readable = filled_readable c.fill.ensures c.in_default.is c.requires.0 (search rules) }, c.requires.2)
 
 pub returns : goal.returns
-returns c = ranks_fit false c.before.args.p _ _ _ _ _ _ (filled_count c.fill.ensures c.in_default.is).1 (c.number_each.ensures _ _ (filled_readable c.fill.ensures c.in_default.is c.before.requires.0 (search rules)))
+returns c = ranks_fit false c.args.p _ _ _ _ _ _ (filled_count c.fill.ensures c.in_default.is).1 (c.number_each.ensures _ _ (filled_readable c.fill.ensures c.in_default.is c.requires.0 (search rules)))

@@ -23,7 +23,7 @@ pub bounds-s-i-in-loop-i : goal.bounds-s-i-in-loop-i
 bounds-s-i-in-loop-i c = omega arith
 
 pub steeper-hi-requires : goal.steeper-hi-requires
-steeper-hi-requires c κs = let p = c.requires.0 in (c.loop-i.invariant.1.le, form-pos p _ (omega arith), form-near p _ (omega arith), form-low p _ (omega arith))
+steeper-hi-requires c = let p = c.requires.0 in (c.loop-i.invariant.1.le, form-pos p _ (omega arith), form-near p _ (omega arith), form-low p _ (omega arith))
 
 pub deeper-deep-requires : goal.deeper-deep-requires
 deeper-deep-requires c = (c.loop-i.invariant.2.le, c.requires.0.low _ (omega arith))
@@ -39,7 +39,7 @@ loop-i-preserved c = (omega arith, steepest_more c.loop-i.invariant.1 _ c.steepe
 
 pub returns : goal.returns
 returns c = record {
-  planned = record { form = c.before.requires.0; steep = steepest_at c.loop.invariant.1 (omega arith); deep = deepest_at c.loop.invariant.2 (omega arith); fewer = c.is_few-few.ensures };
+  planned = record { form = c.requires.0; steep = steepest_at c.loop-i.invariant.1 (omega arith); deep = deepest_at c.loop-i.invariant.2 (omega arith); fewer = c.is_few-few.ensures };
   k_is = refl;
   wall_is = refl;
   ex_is = refl;

@@ -10,6 +10,7 @@ use Rattle.tables.proofs.Lowering.{Until, until_none, until_more, until_idle, un
 use Rattle.tables.proofs.Shaping.{laid-start, laid_more}
 use borrow.Author.Rules.{rules}
 use Rattle.grid.proofs.shape.own_shape.Goals as goal
+use Rattle.grid.proofs.shape.own_shape.Goals.{then-i-k, else-i-k}
 
 pub loop-i-init : goal.loop-i-init
 loop-i-init c = (omega arith, until_none (laid-start _ _))
@@ -39,10 +40,10 @@ pub loop-i-preserved : goal.loop-i-preserved
 loop-i-preserved c =
     let u = c.loop-i.invariant.1 in (
       omega arith,
-      ⊎_elim
-          (λ w. rw (w.3, w.4) (until_more w.0.taken (laid_more _ _ _ _ c.loop-i.i _ _ (u.so_far (omega arith)) (omega arith) w.1.ensures (omega (arith, w.1.ensures, w.2.ensures)))))
-          (λ w. rw (w.1, w.2) (until_idle w.0.left u))
-          c.if-i-k.branch,
+      elim c.if-i-k.branch [
+          then-i-k w ↦ ?
+        | else-i-k w ↦ ?
+      ],
     )
 
 pub returns-then-up-lt-GROUND : goal.returns-then-up-lt-GROUND

@@ -45,9 +45,3 @@ loop-i-preserved c = onto c.loop-i.invariant (λ sa sc fu so. front-next _ _ _ _
 
 pub returns : goal.returns
 returns c = λ sa sc fu. let so = c.loop-i.invariant.all sa sc fu in lining_all _ _ _ _ _ _ _ _ so (omega (arith, so.passed))
-
--- TODO
--- | same_length : tie.Need-same-length invariant-loop decreases-loop
--- | same_length c = (one c.before.loop.invariant).as_long
--- | same-length-2 : tie.Need-same-length-2 invariant-loop decreases-loop
--- | same-length-2 c = (one c.before.loop.invariant).as_many

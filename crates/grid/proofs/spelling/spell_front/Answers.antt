@@ -5,4 +5,4 @@ use borrow.Author.Rules.{rules}
 use Rattle.grid.proofs.spelling.spell_front.Goals as goal
 
 pub returns : goal.returns
-returns c = λ sa sc fu. front_of_lem _ _ _ _ _ _ _ (c.spell.ensures.1 sa sc fu) c.spell.ensures.0 (search rules) refl c.before.requires.2 c.put.ensures
+returns c = λ sa sc fu. front_of_lem _ _ _ _ _ _ _ (c.spell-at.ensures.1 sa sc fu) c.spell-at.ensures.0 (search rules) refl c.requires.2 c.put.ensures

@@ -6,16 +6,16 @@ use borrow.Author.Rules.{rules}
 use Rattle.grid.proofs.table.columns.Goals as goal
 
 pub rest-requires : goal.rest-requires
-rest-requires c = (record { ready = ready_len c.requires.0.ready c.val-1.given; table = c.fast-next.ensures.table; start = c.fast-next.ensures.start; end = c.if-next-p.true }, c.requires.1)
+rest-requires c = record { unfinished = record { ready = ready_len c.requires.blank.ready ?; table = c.fast-next.ensures.table; start = c.fast-next.ensures.start; end = c.if-next-p.true }; spans_for = c.requires.spans_for }
 
 pub end_of-end-requires : goal.end_of-end-requires
-end_of-end-requires c = c.requires.0.ready.sizes
+end_of-end-requires c = c.requires.blank.ready.sizes
 
 pub offset_bounds-val-end : goal.offset_bounds-val-end
-offset_bounds-val-end c = let h = end-cells c.requires.0.ready in omega arith
+offset_bounds-val-end c = let h = end-cells c.requires.blank.ready in omega arith
 
 pub bounds-val-end : goal.bounds-val-end
-bounds-val-end c = omega (arith, c.end_of-end.ensures, end-room c.requires.0.ready)
+bounds-val-end c = omega (arith, c.end_of-end.ensures, end-room c.requires.blank.ready)
 
 pub returns : goal.returns
 returns c = filled_to-end c.fast-next.ensures (omega arith) (λ j. (c.type_inv.val j).fits) refl c.end_of-end.ensures

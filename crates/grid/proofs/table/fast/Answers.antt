@@ -9,22 +9,22 @@ use borrow.Author.Tests.{not-false}
 use Rattle.grid.proofs.table.fast.Goals as goal
 
 pub start_of-start-requires : goal.start_of-start-requires
-start_of-start-requires c = c.requires.0.ready.sizes
+start_of-start-requires c = c.requires.blank.ready.sizes
 
 pub offset_bounds-val-start : goal.offset_bounds-val-start
-offset_bounds-val-start c = let h = first_in c.requires.0 c.start_of-start.ensures in omega arith
+offset_bounds-val-start c = let h = first_in c.requires.blank c.start_of-start.ensures in omega arith
 
 pub bounds-val-start : goal.bounds-val-start
-bounds-val-start c = first_in c.requires.0 c.start_of-start.ensures
+bounds-val-start c = first_in c.requires.blank c.start_of-start.ensures
 
 pub loop-x-init : goal.loop-x-init
 loop-x-init c =
-    let b = c.requires.0 in
+    let b = c.requires.blank in
     let s = c.start_of-start.ensures in
     (omega arith, omega arith, refl, begin_ready b s, begin_table b s, begin_small b s)
 
 pub step-small-requires : goal.step-small-requires
-step-small-requires c = (record { ready = c.loop-x.invariant.3; table = c.loop-x.invariant.4; small = c.loop-x.invariant.5; start = c.loop-x.invariant.0; end = c.loop-x-test.true }, c.requires.1)
+step-small-requires c = record { unflagged = record { ready = c.loop-x.invariant.3; table = c.loop-x.invariant.4; small = c.loop-x.invariant.5; start = c.loop-x.invariant.0; end = c.loop-x-test.true }; spans_for = c.requires.spans_for }
 
 pub overflow_add-x : goal.overflow_add-x
 overflow_add-x c = let p = c.loop-x.invariant.3.sizes in omega arith
@@ -40,9 +40,3 @@ loop-x-preserved c = (omega arith, omega arith, omega arith, ready_len c.loop-x.
 
 pub returns : goal.returns
 returns c = record { table = c.loop-x.invariant.4; start = c.loop-x.invariant.0; end = c.loop-x.invariant.1 }
-
--- TODO
--- | same_length : tie.Need-same-length invariant-loop decreases-loop
--- | same_length c = omega (arith, length-set c.before.before.before.before.before.before.before.before.before.args.val.now c.before.before.before.before.before.before.before.start_of.result 1)
--- | same-length-2 : tie.Need-same-length-2 invariant-loop decreases-loop
--- | same-length-2 c = omega (arith, length-set c.before.before.before.before.args.val.now c.before.before.start_of.result 1)

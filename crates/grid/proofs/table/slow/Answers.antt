@@ -30,25 +30,19 @@ pub overflow_add-at-in-loop-y : goal.overflow_add-at-in-loop-y
 overflow_add-at-in-loop-y c = record { fits = (slow_placed c.loop-y.invariant.4 _ c.loop-y-test.true).cell }
 
 pub total-r-requires : goal.total-r-requires
-total-r-requires c = parts-of c.loop.invariant.4 c.loop.invariant.5 c.loop.invariant.0 c.loop-test.true _ (place-sum _ _ _ _) c.loop.invariant.2 c.loop.invariant.3
+total-r-requires c = parts-of c.loop-y.invariant.4 c.loop-y.invariant.5 c.loop-y.invariant.0 c.loop-y-test.true _ (place-sum _ _ _ _) c.loop-y.invariant.2 c.loop-y.invariant.3
 
 pub put-requires : goal.put-requires
-put-requires c = put_in c.loop.invariant.4 c.loop.invariant.5 c.loop.invariant.0 c.loop-test.true c.loop.invariant.2 c.loop.invariant.3
+put-requires c = put_in c.loop-y.invariant.4 c.loop-y.invariant.5 c.loop-y.invariant.0 c.loop-y-test.true c.loop-y.invariant.2 c.loop-y.invariant.3
 
 pub overflow_add-y : goal.overflow_add-y
-overflow_add-y c = record { fits = (slow_placed c.loop.invariant.4 _ c.loop-test.true).above }
+overflow_add-y c = record { fits = (slow_placed c.loop-y.invariant.4 _ c.loop-y-test.true).above }
 
 pub loop-y-smaller : goal.loop-y-smaller
-loop-y-smaller c = fewer-left _ _ c.loop-test.true
+loop-y-smaller c = fewer-left _ _ c.loop-y-test.true
 
 pub loop-y-preserved : goal.loop-y-preserved
-loop-y-preserved c = (omega arith, more-le _ _ c.loop-test.true, omega arith, omega arith, c.loop.invariant.4, part-more c.loop.invariant.4 c.loop.invariant.5 c.loop.invariant.0 c.loop-test.true _ _ _ _ (place-sum _ _ _ _) c.put.ensures c.total-r.ensures)
+loop-y-preserved c = (omega arith, more-le _ _ c.loop-y-test.true, omega arith, omega arith, c.loop-y.invariant.4, part-more c.loop-y.invariant.4 c.loop-y.invariant.5 c.loop-y.invariant.0 c.loop-y-test.true _ _ _ _ (place-sum _ _ _ _) c.put.ensures c.total-r.ensures)
 
 pub returns : goal.returns
 returns c = slow_done c.loop-y.invariant.4 c.loop-y.invariant.5 (all_of _ _ c.loop-y.invariant.1 c.loop-y-test.false)
-
--- TODO
--- | same_length : tie.Need-same-length invariant-loop decreases-loop
--- | same_length c = c.before.loop.invariant.2
--- | same-length-2 : tie.Need-same-length-2 invariant-loop decreases-loop
--- | same-length-2 c = c.before.loop.invariant.3
