@@ -1,5 +1,4 @@
 -- `grid::heights::heights` meets its contract: the heights are laid one by one. Assumes nothing.
-use mathlib.Core.Logic.{⊎_elim}
 use Prim.Native.Nat.{◌≤◌, ◌-◌}
 use native.Mathlib.Nat.{mul-le-mul}
 use native.Mathlib.Omega.{arith}
@@ -48,8 +47,8 @@ loop-i-preserved c =
     let u = c.loop-i.invariant.1 in (
       omega arith,
       elim c.if-i-k.branch [
-          then-i-k w ↦ ?
-        | else-i-k w ↦ ?
+          then-i-k w ↦ rw w.up-is (until_more w.if-i-k.true (heights_more _ _ _ _ _ _ _ (u.so_far (omega arith)) (omega arith) w.height.ensures))
+        | else-i-k w ↦ rw w.up-is (until_idle w.if-i-k.false u)
       ],
     )
 

@@ -1,5 +1,4 @@
 -- `grid::heights::heights` meets its contract: the heights are laid one by one. Assumes nothing.
-use mathlib.Core.Logic.{⊎_elim}
 use Prim.Native.Nat.{◌≤◌, ◌-◌}
 use native.Mathlib.Nat.{mul-le-mul}
 use native.Mathlib.Omega.{arith}

@@ -41,8 +41,8 @@ loop-i-preserved c =
     let u = c.loop-i.invariant.1 in (
       omega arith,
       elim c.if-i-k.branch [
-          then-i-k w ↦ ?
-        | else-i-k w ↦ ?
+          then-i-k w ↦ rw (w.sa-is, w.sc-is) (until_more w.if-i-k.true (laid_more _ _ _ _ c.loop-i.i _ _ (u.so_far (omega arith)) (omega arith) w.wide-x.ensures (omega (arith, w.wide-x.ensures, w.wide-then-i-k.ensures))))
+        | else-i-k w ↦ rw (w.sa-is, w.sc-is) (until_idle w.if-i-k.false u)
       ],
     )
 

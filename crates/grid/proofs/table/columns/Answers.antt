@@ -6,7 +6,7 @@ use borrow.Author.Rules.{rules}
 use Rattle.grid.proofs.table.columns.Goals as goal
 
 pub rest-requires : goal.rest-requires
-rest-requires c = record { unfinished = record { ready = ready_len c.requires.blank.ready ?; table = c.fast-next.ensures.table; start = c.fast-next.ensures.start; end = c.if-next-p.true }; spans_for = c.requires.spans_for }
+rest-requires c = record { unfinished = record { ready = ready_len c.requires.blank.ready c.fast-next.auto.val; table = c.fast-next.ensures.table; start = c.fast-next.ensures.start; end = c.if-next-p.true }; spans_for = c.requires.spans_for }
 
 pub end_of-end-requires : goal.end_of-end-requires
 end_of-end-requires c = c.requires.blank.ready.sizes
