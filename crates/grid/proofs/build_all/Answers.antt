@@ -3,7 +3,6 @@ use mathlib.Core.Path.{sym, ◌∙◌}
 use Rattle.lines.proofs.Lining.{room_of}
 use Rattle.lines.proofs.Mines.{other-lines}
 use Rattle.lines.proofs.Knowing.{lines_no_room, lines_refusing, lines-ending}
-use borrow.Author.Rules.{rules}
 use Rattle.grid.proofs.build_all.Goals as goal
 
 pub spell_edges-requires : goal.spell_edges-requires

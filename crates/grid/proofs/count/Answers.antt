@@ -3,7 +3,6 @@ use Rattle.rules.specs.Answers.{count_answer}
 use Rattle.lines.specs.declared.Counting.TheVariants.{NotMine}
 use Rattle.lines.proofs.Mines.{other-count}
 use Rattle.lines.proofs.Knowing.{count-never, count_refusing, count-ending}
-use borrow.Author.Rules.{rules}
 use Rattle.grid.proofs.count.Goals as goal
 
 pub count-requires : goal.count-requires

@@ -2,7 +2,6 @@
 use mathlib.Core.Path.{refl}
 use Rattle.lines.proofs.Mines.{other-ranks}
 use Rattle.lines.proofs.Knowing.{roomed, ranks_no_room, ranks_refusing, ranks-ending}
-use borrow.Author.Rules.{rules}
 use Rattle.grid.proofs.number_all.Goals as goal
 
 pub number_edges-requires : goal.number_edges-requires

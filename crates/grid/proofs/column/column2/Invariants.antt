@@ -1,7 +1,6 @@
 -- `grid::column::column2` meets its contract: each turn sums one cell more. Assumes nothing.
 use Prim.Native.Nat.{◌-◌}
-use native.Mathlib.Omega.{arith}
-use Rattle.grid.proofs.Sums.{Summing, summing_none, summing_more, summing_all, source_at, cell-read, cell-written, one_more, Sources2, turn2, below_2, below_8, fewer-left}
+use Rattle.grid.proofs.Sums.{Summing, Sources2}
 use Rattle.grid.proofs.column.column2.Given as goal
 
 abbrev pub invariant-loop-i : goal.invariant-loop-i

@@ -1,7 +1,6 @@
 -- `grid::column::column4` meets its contract: each turn sums one cell more. Assumes nothing.
 use Prim.Native.Nat.{◌-◌}
-use native.Mathlib.Omega.{arith}
-use Rattle.grid.proofs.Sums.{Summing, summing_none, summing_more, summing_all, source_at, cell-read, cell-written, one_more, Sources4, turn4, below_4, below_8, fewer-left}
+use Rattle.grid.proofs.Sums.{Summing, Sources4}
 use Rattle.grid.proofs.column.column4.Given as goal
 
 abbrev pub invariant-loop-i : goal.invariant-loop-i

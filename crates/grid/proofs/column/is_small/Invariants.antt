@@ -1,13 +1,7 @@
 -- `grid::column::is_small` meets its contract: the sum is 0 only if no cell so far has a bit above 2^61. Assumes nothing.
 use Prim.Native.Nat.{ℕ, ◌+◌, ◌*◌, ◌-◌, ◌≤◌, ◌<◌}
 use mathlib.Core.Path.{◌≡◌}
-use native.Mathlib.Omega.{arith}
-use native.Mathlib.Nat.{not-suc-le-zero}
 use lib.ListN.{get_or}
-use borrow.Author.Count.{below_more}
-use borrow.Author.Rules.{rules}
-use borrow.Author.Tests.{eqb-true}
-use Rattle.grid.proofs.Sums.{high_le, above-fits}
 use Rattle.grid.proofs.column.is_small.Given as goal
 
 abbrev pub invariant-loop-i : goal.invariant-loop-i

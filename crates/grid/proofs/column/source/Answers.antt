@@ -1,5 +1,4 @@
 -- `grid::column::source` meets its contract: by the test that led there. Assumes nothing.
-use borrow.Author.Rules.{rules}
 use native.Mathlib.Omega.{arith}
 use borrow.Author.Tests.{lt-ltb, le-ltb}
 use Rattle.tables.specs.Cells.{source_of}

@@ -3,7 +3,6 @@ use Prim.Native.Nat.{◌-◌}
 use native.Mathlib.Omega.{arith}
 use Rattle.tables.proofs.Laws.{mul_bound}
 use Rattle.tables.proofs.Walls.{from-fence, from_end}
-use borrow.Author.Rules.{rules}
 use Rattle.grid.proofs.cone.from_at.Goals as goal
 
 pub overflow_add-fence : goal.overflow_add-fence

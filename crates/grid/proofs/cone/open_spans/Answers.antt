@@ -1,8 +1,5 @@
 -- `grid::cone::open_spans` meets its contract: one column after the other. Assumes nothing.
-use Prim.Native.Nat.{◌+◌, ◌-◌}
-use borrow.Author.Rules.{rules}
-use Rattle.tables.specs.Form.{unwalled}
-use Rattle.grid.proofs.Spanning.{SpansTo, spans_start, spans_turn, spans_end}
+use Rattle.grid.proofs.Spanning.{spans_start, spans_turn, spans_end}
 use Rattle.grid.proofs.cone.open_spans.Goals as goal
 
 pub loop-x-init : goal.loop-x-init

@@ -3,7 +3,6 @@ use Prim.Native.Nat.{◌/◌}
 use native.Mathlib.Omega.{arith}
 use Rattle.tables.proofs.Laws.{mul_bound}
 use Rattle.tables.proofs.Walls.{sixth_of}
-use borrow.Author.Rules.{rules}
 use Rattle.grid.proofs.cone.reach_of.Goals as goal
 
 pub overflow_mul-result : goal.overflow_mul-result

@@ -1,6 +1,4 @@
 -- `grid::cone::spans` meets its contract: where there is no wall, and where there is one. Assumes nothing.
-use mathlib.Core.Path.{◌≡◌}
-use borrow.Author.Rules.{rules}
 use Rattle.grid.proofs.cone.spans.Goals as goal
 
 pub returns-then-is_open : goal.returns-then-is_open

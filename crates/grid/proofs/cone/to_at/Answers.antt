@@ -1,6 +1,5 @@
 -- `grid::cone::to_at` meets its contract: past the highest height that a step leads to, or past the end. Assumes nothing.
 use Rattle.tables.proofs.Walls.{to-reach, to_end}
-use borrow.Author.Rules.{rules}
 use Rattle.grid.proofs.cone.to_at.Goals as goal
 
 pub returns-then-reach-ey : goal.returns-then-reach-ey

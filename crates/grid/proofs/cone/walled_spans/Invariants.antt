@@ -1,7 +1,6 @@
 -- `grid::cone::walled_spans` meets its contract: one column after the other. Assumes nothing.
 use Prim.Native.Nat.{◌+◌, ◌-◌}
-use borrow.Author.Rules.{rules}
-use Rattle.grid.proofs.Spanning.{SpansTo, spans_start, spans_turn, spans_end}
+use Rattle.grid.proofs.Spanning.{SpansTo}
 use Rattle.grid.proofs.cone.walled_spans.Given as goal
 
 abbrev pub invariant-loop-x : goal.invariant-loop-x

@@ -4,7 +4,6 @@ use native.Mathlib.Omega.{arith}
 use Rattle.tables.specs.Calls.{counted_of}
 use Rattle.tables.proofs.Counted.{state_none, state_working, counts-value, counts-told, plan_count}
 use Rattle.grid.proofs.Paired.{form_of, narrow-of}
-use borrow.Author.Rules.{rules}
 use Rattle.grid.proofs.counting.count.Goals as goal
 
 pub returns-then-state-eq1 : goal.returns-then-state-eq1

@@ -1,7 +1,6 @@
 -- `grid::counting::count_large` meets its contract: a blank table of this size is lent. Assumes nothing.
 use native.Mathlib.Omega.{arith}
 use Rattle.tables.proofs.Planning.{blank-at}
-use borrow.Author.Rules.{rules}
 use Rattle.grid.proofs.counting.count_large.Goals as goal
 
 pub fill-requires : goal.fill-requires

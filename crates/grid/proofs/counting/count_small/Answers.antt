@@ -1,6 +1,5 @@
 -- `grid::counting::count_small` meets its contract: a blank table of the smallest size that has room is lent. Assumes nothing.
 use Rattle.tables.proofs.Planning.{blank-at}
-use borrow.Author.Rules.{rules}
 use Rattle.grid.proofs.counting.count_small.Goals as goal
 
 pub fill-requires : goal.fill-requires

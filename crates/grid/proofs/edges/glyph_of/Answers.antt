@@ -2,7 +2,6 @@
 use mathlib.Core.Path.{refl}
 use mathlib.Core.Bool.{false}
 use Rattle.letters.proofs.Glyphs.{glyph-digit}
-use borrow.Author.Rules.{rules}
 use Rattle.grid.proofs.edges.glyph_of.Goals as goal
 
 pub returns : goal.returns

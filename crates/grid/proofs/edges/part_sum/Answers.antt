@@ -1,10 +1,7 @@
 -- `grid::edges::part_sum` meets its contract: each turn adds what one step more brings. Assumes nothing.
-use mathlib.Core.Path.{◌≡◌, refl, ap, ◌∙◌}
-use Prim.Native.Nat.{◌-◌, ◌≤◌}
+use mathlib.Core.Path.{refl, ap, ◌∙◌}
 use native.Mathlib.Omega.{arith}
-use borrow.Author.Rules.{rules}
 use Rattle.howmany.specs.Sum.{sum}
-use Rattle.tables.specs.Edges.{brought_at}
 use Rattle.tables.proofs.Numbers.{read_more}
 use Rattle.grid.proofs.edges.part_sum.Goals as goal
 

@@ -1,11 +1,8 @@
 -- `grid::edges::part_sum` meets its contract: each turn adds what one step more brings. Assumes nothing.
-use mathlib.Core.Path.{◌≡◌, refl, ap, ◌∙◌}
+use mathlib.Core.Path.{◌≡◌}
 use Prim.Native.Nat.{◌-◌, ◌≤◌}
-use native.Mathlib.Omega.{arith}
-use borrow.Author.Rules.{rules}
 use Rattle.howmany.specs.Sum.{sum}
 use Rattle.tables.specs.Edges.{brought_at}
-use Rattle.tables.proofs.Numbers.{read_more}
 use Rattle.grid.proofs.edges.part_sum.Given as goal
 
 abbrev pub invariant-loop-i : goal.invariant-loop-i

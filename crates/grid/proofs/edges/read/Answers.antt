@@ -2,7 +2,7 @@
 -- Assumes nothing.
 use mathlib.Core.Bool.{false}
 use native.Mathlib.Omega.{arith}
-use Rattle.tables.proofs.Numbers.{Every, one, onto, stand_in, end-stand, reads-summed, Walking, not_there, walking_start, walking-reads, walking-fits, not_letter, not_back, stepped, not_start, walking-end}
+use Rattle.tables.proofs.Numbers.{one, onto, stand_in, end-stand, reads-summed, not_there, walking_start, walking-reads, walking-fits, not_letter, not_back, stepped, not_start, walking-end}
 use Rattle.grid.proofs.edges.read.Goals as goal
 
 pub end_of-at-requires : goal.end_of-at-requires

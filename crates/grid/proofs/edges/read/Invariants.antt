@@ -1,8 +1,7 @@
 -- `grid::edges::read` meets its contract: at each step what is read so far and what is left make up the edge's validity and its number.
 -- Assumes nothing.
 use mathlib.Core.Bool.{false}
-use native.Mathlib.Omega.{arith}
-use Rattle.tables.proofs.Numbers.{Every, one, onto, stand_in, end-stand, reads-summed, Walking, not_there, walking_start, walking-reads, walking-fits, not_letter, not_back, stepped, not_start, walking-end}
+use Rattle.tables.proofs.Numbers.{Every, Walking}
 use Rattle.grid.proofs.edges.read.Given as goal
 
 abbrev pub invariant-loop-i : goal.invariant-loop-i

@@ -1,10 +1,5 @@
 -- `grid::edges::seek` meets its contract: what is left is below what the steps not yet passed bring. Assumes nothing.
-use mathlib.Core.Path.{◌≡◌}
-use Prim.Native.Nat.{◌+◌, ◌-◌, ◌<◌}
 use native.Mathlib.Omega.{arith}
-use borrow.Author.Rules.{rules}
-use Rattle.howmany.specs.Sum.{sum}
-use Rattle.tables.specs.Edges.{brought_at}
 use Rattle.tables.proofs.Numbers.{read_is}
 use Rattle.tables.proofs.Building.{seek_here, seek_more, seek_in, seek_start}
 use Rattle.grid.proofs.edges.seek.Goals as goal

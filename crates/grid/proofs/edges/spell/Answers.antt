@@ -1,10 +1,10 @@
 -- `grid::edges::spell` meets its contract: at each step what is written so far and what is left make up the edge. Assumes nothing.
-use mathlib.Core.Path.{◌≡◌, refl}
+use mathlib.Core.Path.{refl}
 use mathlib.Core.Bool.{false}
 use native.Mathlib.Omega.{arith}
-use lib.ListN.{length, length-set}
-use Rattle.tables.proofs.Numbers.{Every, one, onto, end_is}
-use Rattle.tables.proofs.Building.{SpeltSoFar, writing_start, writing-done, writing_more, seek_needs, spell-room, picked, step_in, step_back, next-letter, writing-end}
+use lib.ListN.{length-set}
+use Rattle.tables.proofs.Numbers.{one, onto, end_is}
+use Rattle.tables.proofs.Building.{writing_start, writing-done, writing_more, seek_needs, spell-room, picked, step_in, step_back, next-letter, writing-end}
 use Rattle.grid.proofs.edges.spell.Goals as goal
 
 pub start_of-start-requires : goal.start_of-start-requires

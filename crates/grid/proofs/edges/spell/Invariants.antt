@@ -1,10 +1,9 @@
 -- `grid::edges::spell` meets its contract: at each step what is written so far and what is left make up the edge. Assumes nothing.
-use mathlib.Core.Path.{◌≡◌, refl}
+use mathlib.Core.Path.{◌≡◌}
 use mathlib.Core.Bool.{false}
-use native.Mathlib.Omega.{arith}
-use lib.ListN.{length, length-set}
-use Rattle.tables.proofs.Numbers.{Every, one, onto, end_is}
-use Rattle.tables.proofs.Building.{SpeltSoFar, writing_start, writing-done, writing_more, seek_needs, spell-room, picked, step_in, step_back, next-letter, writing-end}
+use lib.ListN.{length}
+use Rattle.tables.proofs.Numbers.{Every}
+use Rattle.tables.proofs.Building.{SpeltSoFar}
 use Rattle.grid.proofs.edges.spell.Given as goal
 
 abbrev pub invariant-loop-at : goal.invariant-loop-at

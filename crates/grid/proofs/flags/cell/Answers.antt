@@ -1,7 +1,6 @@
 -- `grid::flags::cell` meets its contract: by the flag. Assumes nothing.
 use Rattle.tables.proofs.Laws.{cell-zero, cell-over}
 use mathlib.Core.Path.{sym}
-use borrow.Author.Rules.{rules}
 use Rattle.grid.proofs.flags.cell.Goals as goal
 
 pub returns-then-ov-i-eq0 : goal.returns-then-ov-i-eq0

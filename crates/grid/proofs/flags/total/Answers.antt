@@ -1,10 +1,7 @@
 -- `grid::flags::total` meets its contract: the sum so far fits, or the whole doesn't. Assumes nothing.
-use mathlib.Core.Path.{◌≡◌, refl}
-use Prim.Native.Nat.{ℕ, ◌≤◌, ◌-◌, ◌^◌, ◌<◌}
+use mathlib.Core.Path.{refl}
 use native.Mathlib.Omega.{arith}
-use borrow.Author.Rules.{rules}
 use Rattle.howmany.specs.Sum.{sum}
-use Rattle.tables.specs.Filling.{Says}
 use Rattle.tables.proofs.Laws.{total-done, total-over, total-more, total_wraps}
 use Rattle.tables.proofs.Phases.{said}
 use Rattle.grid.proofs.flags.total.Goals as goal

@@ -1,9 +1,7 @@
 -- `grid::heights::heights` meets its contract: the heights are laid one by one. Assumes nothing.
-use Prim.Native.Nat.{◌≤◌, ◌-◌}
 use native.Mathlib.Nat.{mul-le-mul}
 use native.Mathlib.Omega.{arith}
-use Rattle.tables.specs.Heights.{Heights}
-use Rattle.tables.proofs.Lowering.{Until, until_none, until_more, until_idle, until_all, heights_none, heights_more}
+use Rattle.tables.proofs.Lowering.{until_none, until_more, until_idle, until_all, heights_none, heights_more}
 use Rattle.grid.proofs.heights.heights.Goals as goal
 use Rattle.grid.proofs.heights.heights.Goals.{then-i-k, else-i-k}
 
@@ -47,7 +45,7 @@ loop-i-preserved c =
     let u = c.loop-i.invariant.1 in (
       omega arith,
       elim c.if-i-k.branch [
-          then-i-k w ↦ rw w.up-is (until_more w.if-i-k.true (heights_more _ _ _ _ _ _ _ (u.so_far (omega arith)) (omega arith) w.height.ensures))
+        | then-i-k w ↦ rw w.up-is (until_more w.if-i-k.true (heights_more _ _ _ _ _ _ _ (u.so_far (omega arith)) (omega arith) w.height.ensures))
         | else-i-k w ↦ rw w.up-is (until_idle w.if-i-k.false u)
       ],
     )

@@ -1,9 +1,7 @@
 -- `grid::heights::heights` meets its contract: the heights are laid one by one. Assumes nothing.
 use Prim.Native.Nat.{◌≤◌, ◌-◌}
-use native.Mathlib.Nat.{mul-le-mul}
-use native.Mathlib.Omega.{arith}
 use Rattle.tables.specs.Heights.{Heights}
-use Rattle.tables.proofs.Lowering.{Until, until_none, until_more, until_idle, until_all, heights_none, heights_more}
+use Rattle.tables.proofs.Lowering.{Until}
 use Rattle.grid.proofs.heights.heights.Given as goal
 
 abbrev pub invariant-loop-i : goal.invariant-loop-i

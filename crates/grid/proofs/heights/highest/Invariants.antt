@@ -1,9 +1,7 @@
 -- `grid::heights::highest` meets its contract: no step so far is steeper than the slope, and the fence isn't. Assumes nothing.
 use mathlib.Core.Bool.{true}
 use Prim.Native.Nat.{◌≤◌, ◌-◌}
-use native.Mathlib.Omega.{arith}
 use Rattle.tables.specs.Heights.{Bounds}
-use Rattle.tables.proofs.Lowering.{bounds-none, bounds-high, bounds-at}
 use Rattle.grid.proofs.heights.highest.Given as goal
 
 abbrev pub invariant-loop-i : goal.invariant-loop-i

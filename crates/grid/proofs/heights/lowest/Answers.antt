@@ -1,8 +1,6 @@
 -- `grid::heights::lowest` meets its contract: the slope is no steeper than the steps so far. Assumes nothing.
 use mathlib.Core.Bool.{false}
-use Prim.Native.Nat.{◌≤◌, ◌-◌}
 use native.Mathlib.Omega.{arith}
-use Rattle.tables.specs.Heights.{Bounds}
 use Rattle.tables.proofs.Lowering.{bounds-none, bounds-low, bounds-at}
 use Rattle.grid.proofs.heights.lowest.Goals as goal
 

@@ -4,7 +4,6 @@ use Rattle.rules.specs.Blocks.{paired}
 use Rattle.job.proofs.Standing.{kept_of, told_of_lem}
 use Rattle.lines.proofs.Knowing.{mine_by, refusing_told}
 use Rattle.grid.proofs.Paired.{shape_needs, shaped_as}
-use borrow.Author.Rules.{rules}
 use Rattle.grid.proofs.known.known_of.Goals as goal
 
 pub returns-then-not-is_paired : goal.returns-then-not-is_paired

@@ -1,11 +1,8 @@
 -- `grid::numbering::number_each` meets its contract: an edge more at each turn. Assumes nothing.
 use mathlib.Core.Bool.{false}
-use Prim.Native.Nat.{◌-◌}
-use lib.ListN.{length}
-use Rattle.lines.proofs.Ranking.{Ranking, ranking_none, ranking_room, ranking_next, ranking_stop, ranking_all, part-rank}
+use Rattle.lines.proofs.Ranking.{ranking_none, ranking_room, ranking_next, ranking_stop, ranking_all, part-rank}
 use Rattle.tables.specs.Plans.{valid_for, rank_for}
-use Rattle.tables.proofs.Numbers.{Every, one, onto}
-use borrow.Author.Rules.{rules}
+use Rattle.tables.proofs.Numbers.{one, onto}
 use Rattle.grid.proofs.numbering.number_each.Goals as goal
 
 pub loop-i-init : goal.loop-i-init

@@ -2,10 +2,9 @@
 use mathlib.Core.Bool.{false}
 use Prim.Native.Nat.{◌-◌}
 use lib.ListN.{length}
-use Rattle.lines.proofs.Ranking.{Ranking, ranking_none, ranking_room, ranking_next, ranking_stop, ranking_all, part-rank}
+use Rattle.lines.proofs.Ranking.{Ranking}
 use Rattle.tables.specs.Plans.{valid_for, rank_for}
-use Rattle.tables.proofs.Numbers.{Every, one, onto}
-use borrow.Author.Rules.{rules}
+use Rattle.tables.proofs.Numbers.{Every}
 use Rattle.grid.proofs.numbering.number_each.Given as goal
 
 abbrev pub invariant-loop-i : goal.invariant-loop-i

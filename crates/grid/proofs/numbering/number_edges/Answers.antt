@@ -2,7 +2,6 @@
 use Rattle.lines.specs.Lines.{cut_from}
 use Rattle.tables.proofs.Counted.{state_none, state_empty, numbers-none}
 use Rattle.grid.proofs.Paired.{form_of, narrow-of, numbers_as}
-use borrow.Author.Rules.{rules}
 use Rattle.grid.proofs.numbering.number_edges.Goals as goal
 
 pub returns-then-state-eq1 : goal.returns-then-state-eq1

@@ -1,7 +1,6 @@
 -- `grid::numbering::number_medium` meets its contract: a blank table of this size is lent. Assumes nothing.
 use native.Mathlib.Omega.{arith}
 use Rattle.tables.proofs.Planning.{blank-at}
-use borrow.Author.Rules.{rules}
 use Rattle.grid.proofs.numbering.number_medium.Goals as goal
 
 pub number_in-requires : goal.number_in-requires

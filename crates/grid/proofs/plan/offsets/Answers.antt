@@ -1,9 +1,8 @@
 -- `grid::plan::offsets` meets its contract: what is too far has room too. Assumes nothing.
-use mathlib.Core.Path.{◌≡◌, refl}
-use Prim.Native.Nat.{ℕ, ◌+◌, ◌-◌, ◌*◌, ◌≤◌, ◌<◌}
+use mathlib.Core.Path.{refl}
 use native.Mathlib.Omega.{arith}
 use native.Mathlib.Nat.{not-suc-le-zero}
-use lib.ListN.{length, get_or, length-set}
+use lib.ListN.{length-set}
 use Rattle.tables.specs.Plans.{stride_for}
 use Rattle.tables.proofs.Prepare.{far-times, form-low, offset-more}
 use Rattle.tables.proofs.Planning.{stride-le}

@@ -1,12 +1,7 @@
 -- `grid::plan::offsets` meets its contract: what is too far has room too. Assumes nothing.
-use mathlib.Core.Path.{◌≡◌, refl}
+use mathlib.Core.Path.{◌≡◌}
 use Prim.Native.Nat.{ℕ, ◌+◌, ◌-◌, ◌*◌, ◌≤◌, ◌<◌}
-use native.Mathlib.Omega.{arith}
-use native.Mathlib.Nat.{not-suc-le-zero}
-use lib.ListN.{length, get_or, length-set}
-use Rattle.tables.specs.Plans.{stride_for}
-use Rattle.tables.proofs.Prepare.{far-times, form-low, offset-more}
-use Rattle.tables.proofs.Planning.{stride-le}
+use lib.ListN.{length, get_or}
 use Rattle.grid.proofs.plan.offsets.Given as goal
 
 abbrev pub invariant-loop-i : goal.invariant-loop-i

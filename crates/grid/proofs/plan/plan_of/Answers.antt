@@ -1,10 +1,7 @@
 -- `grid::plan::plan_of` meets its contract: the steepest and the deepest step are found by one loop. Assumes nothing.
 use mathlib.Core.Path.{refl}
-use Prim.Native.Nat.{◌≤◌, ◌-◌}
 use native.Mathlib.Omega.{arith}
-use Rattle.tables.specs.Table.{Steepest, Deepest}
 use Rattle.tables.proofs.Prepare.{steepest_none, steepest_more, steepest_at, deepest_none, deepest_more, deepest_at, form-pos, form-near, form-low}
-use borrow.Author.Rules.{rules}
 use Rattle.grid.proofs.plan.plan_of.Goals as goal
 
 pub loop-i-init : goal.loop-i-init

@@ -1,5 +1,4 @@
 -- `grid::shape::directed_shape` meets its contract: the job's own shape, lowered where its end is not below 0. Assumes nothing.
-use borrow.Author.Rules.{rules}
 use Rattle.tables.specs.Shapes.Chosen.{sunk, lowered}
 use Rattle.tables.proofs.Shaping.{laid-worked, laid-gentle}
 use Rattle.grid.proofs.shape.directed_shape.Goals as goal

@@ -2,7 +2,6 @@
 -- one of the two. Assumes nothing.
 use native.Mathlib.Nat.{mul-le-mul}
 use native.Mathlib.Omega.{arith}
-use borrow.Author.Rules.{rules}
 use Rattle.tables.specs.Shapes.Beyond.{below, above}
 use Rattle.tables.specs.Shapes.Lowered.{unreached}
 use Rattle.grid.proofs.shape.lowered.Goals as goal

@@ -1,14 +1,11 @@
 -- `grid::shape::own_shape` meets its contract: the steps are laid one by one. Assumes nothing.
 use mathlib.Core.Path.{refl, sym, ap}
-use mathlib.Core.Logic.{⊎_elim}
-use Prim.Native.Nat.{◌≤◌, ◌-◌, ◌+◌, ◌*◌}
+use Prim.Native.Nat.{◌+◌, ◌*◌}
 use native.Mathlib.Omega.{arith}
 use Rattle.howmany.specs.Choose.{bit}
 use borrow.Author.Tests.{lt-ltb, le-ltb}
-use Rattle.tables.specs.Shapes.{Laying}
-use Rattle.tables.proofs.Lowering.{Until, until_none, until_more, until_idle, until_all}
+use Rattle.tables.proofs.Lowering.{until_none, until_more, until_idle, until_all}
 use Rattle.tables.proofs.Shaping.{laid-start, laid_more}
-use borrow.Author.Rules.{rules}
 use Rattle.grid.proofs.shape.own_shape.Goals as goal
 use Rattle.grid.proofs.shape.own_shape.Goals.{then-i-k, else-i-k}
 
@@ -41,7 +38,7 @@ loop-i-preserved c =
     let u = c.loop-i.invariant.1 in (
       omega arith,
       elim c.if-i-k.branch [
-          then-i-k w ↦ rw (w.sa-is, w.sc-is) (until_more w.if-i-k.true (laid_more _ _ _ _ c.loop-i.i _ _ (u.so_far (omega arith)) (omega arith) w.wide-x.ensures (omega (arith, w.wide-x.ensures, w.wide-then-i-k.ensures))))
+        | then-i-k w ↦ rw (w.sa-is, w.sc-is) (until_more w.if-i-k.true (laid_more _ _ _ _ c.loop-i.i _ _ (u.so_far (omega arith)) (omega arith) w.wide-x.ensures (omega (arith, w.wide-x.ensures, w.wide-then-i-k.ensures))))
         | else-i-k w ↦ rw (w.sa-is, w.sc-is) (until_idle w.if-i-k.false u)
       ],
     )

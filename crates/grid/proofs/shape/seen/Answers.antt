@@ -1,7 +1,6 @@
 -- `grid::shape::seen` meets its contract: the end, the wall and the steps' heights change, and the rest stays. Assumes nothing.
 use native.Mathlib.Nat.{mul-le-mul}
 use native.Mathlib.Omega.{arith}
-use borrow.Author.Rules.{rules}
 use Rattle.tables.proofs.Lowering.{view_lowered}
 use Rattle.grid.proofs.shape.seen.Goals as goal
 

@@ -1,15 +1,10 @@
 -- `grid::spelling::spell_all` meets its contract: each edge is spelt where the one before it ends. Assumes nothing.
 use mathlib.Core.Bool.{false}
-use native.Mathlib.Omega.{arith}
 use Prim.Native.Nat.{◌-◌}
 use lib.ListN.{length}
-use Rattle.howmany.proofs.Choices.{holds}
-use Rattle.rules.proofs.Belows.{below_at}
-use Rattle.lines.proofs.Lining.{Lining, lining_none, lining_room, lining_part, lining_all}
+use Rattle.lines.proofs.Lining.{Lining}
 use Rattle.tables.specs.Plans.{edge_for}
-use Rattle.tables.proofs.Numbers.{Every, one, onto}
-use Rattle.tables.proofs.Builds.{front-next}
-use borrow.Author.Rules.{rules}
+use Rattle.tables.proofs.Numbers.{Every}
 use Rattle.grid.proofs.spelling.spell_all.Given as goal
 
 abbrev pub invariant-loop-i : goal.invariant-loop-i

@@ -2,7 +2,6 @@
 use Rattle.tables.proofs.Counted.{state_none}
 use Rattle.tables.proofs.Builds.{build-none, build-empty}
 use Rattle.grid.proofs.Paired.{form_of, narrow-of, builds_as}
-use borrow.Author.Rules.{rules}
 use Rattle.grid.proofs.spelling.spell_edges.Goals as goal
 
 pub returns-then-numbers-ne0 : goal.returns-then-numbers-ne0

@@ -1,7 +1,6 @@
 -- `grid::spelling::spell_large` meets its contract: a blank table of this size is lent. Assumes nothing.
 use native.Mathlib.Omega.{arith}
 use Rattle.tables.proofs.Planning.{blank-at}
-use borrow.Author.Rules.{rules}
 use Rattle.grid.proofs.spelling.spell_large.Goals as goal
 
 pub spell_in-requires : goal.spell_in-requires

@@ -1,7 +1,6 @@
 -- `grid::spelling::spell_planned` meets its contract: the smallest size that has room is prepared. Assumes nothing.
 use native.Mathlib.Omega.{arith}
 use Rattle.tables.proofs.Planning.{prepared_for, prepared-last, sizes_for}
-use borrow.Author.Rules.{rules}
 use Rattle.grid.proofs.spelling.spell_planned.Goals as goal
 
 pub cells_of-cells-requires : goal.cells_of-cells-requires

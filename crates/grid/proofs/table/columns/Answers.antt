@@ -2,7 +2,6 @@
 use native.Mathlib.Omega.{arith}
 use mathlib.Core.Path.{refl}
 use Rattle.tables.proofs.Phases.{ready_len, end-cells, end-room, filled_to-end}
-use borrow.Author.Rules.{rules}
 use Rattle.grid.proofs.table.columns.Goals as goal
 
 pub rest-requires : goal.rest-requires

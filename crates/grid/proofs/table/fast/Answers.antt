@@ -1,9 +1,6 @@
 -- `grid::table::fast` meets its contract: column by column, while the next one needs no test. Assumes nothing.
-use mathlib.Core.Path.{◌≡◌, refl}
-use Prim.Native.Nat.{◌+◌, ◌≤◌, ◌-◌}
+use mathlib.Core.Path.{refl}
 use native.Mathlib.Omega.{arith}
-use lib.ListN.{length, length-set}
-use Rattle.tables.specs.Plans.{PreparedFor, TableFor, SmallFor}
 use Rattle.tables.proofs.Phases.{ready_len, first_in, begin_table, begin_small, begin_ready}
 use borrow.Author.Tests.{not-false}
 use Rattle.grid.proofs.table.fast.Goals as goal

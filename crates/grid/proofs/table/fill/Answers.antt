@@ -1,6 +1,5 @@
 -- `grid::table::fill` meets its contract: the bounds of the columns, and then all columns. Assumes nothing.
 use native.Mathlib.Omega.{arith}
-use borrow.Author.Rules.{rules}
 use Rattle.grid.proofs.table.fill.Goals as goal
 
 pub spans-requires : goal.spans-requires

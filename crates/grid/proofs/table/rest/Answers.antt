@@ -1,10 +1,6 @@
 -- `grid::table::rest` meets its contract: column by column, with flags that are all 0 at first. Assumes nothing.
-use mathlib.Core.Path.{◌≡◌, refl}
-use Prim.Native.Nat.{◌+◌, ◌≤◌, ◌-◌}
+use mathlib.Core.Path.{refl}
 use native.Mathlib.Omega.{arith}
-use borrow.Author.Rules.{rules}
-use lib.ListN.{length}
-use Rattle.tables.specs.Plans.{PreparedFor, FlaggedFor}
 use Rattle.tables.proofs.Phases.{ready_len, resume, flagged_filled, end-cells, end-room}
 use Rattle.grid.proofs.table.rest.Goals as goal
 

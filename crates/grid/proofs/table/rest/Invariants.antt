@@ -1,11 +1,8 @@
 -- `grid::table::rest` meets its contract: column by column, with flags that are all 0 at first. Assumes nothing.
-use mathlib.Core.Path.{◌≡◌, refl}
+use mathlib.Core.Path.{◌≡◌}
 use Prim.Native.Nat.{◌+◌, ◌≤◌, ◌-◌}
-use native.Mathlib.Omega.{arith}
-use borrow.Author.Rules.{rules}
 use lib.ListN.{length}
 use Rattle.tables.specs.Plans.{PreparedFor, FlaggedFor}
-use Rattle.tables.proofs.Phases.{ready_len, resume, flagged_filled, end-cells, end-room}
 use Rattle.grid.proofs.table.rest.Given as goal
 
 abbrev pub invariant-loop-x : goal.invariant-loop-x

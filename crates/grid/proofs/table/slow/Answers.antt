@@ -1,9 +1,6 @@
 -- `grid::table::slow` meets its contract: height by height. Assumes nothing.
-use mathlib.Core.Path.{◌≡◌, refl}
-use Prim.Native.Nat.{◌≤◌, ◌-◌}
+use mathlib.Core.Path.{refl}
 use native.Mathlib.Omega.{arith}
-use lib.ListN.{length}
-use Rattle.tables.specs.Filling.{FlaggingSpan, Part}
 use Rattle.grid.proofs.Sums.{more-le, fewer-left, all_of}
 use Rattle.tables.proofs.Phases.{place-sum, slow_placed, none_yet, put_in, parts-of, part-more, slow_done}
 use Rattle.grid.proofs.table.slow.Goals as goal

@@ -2,7 +2,6 @@
 use native.Mathlib.Omega.{arith}
 use Rattle.tables.proofs.Walls.{span_low, span_high}
 use Rattle.tables.proofs.Phases.{turn-none}
-use borrow.Author.Rules.{rules}
 use Rattle.grid.proofs.table.turn.Goals as goal
 
 pub bounds-starts-x : goal.bounds-starts-x
