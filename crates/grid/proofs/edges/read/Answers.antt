@@ -54,7 +54,7 @@ pub loop-i-smaller : goal.loop-i-smaller
 loop-i-smaller c = omega arith
 
 pub loop-i-preserved : goal.loop-i-preserved
-loop-i-preserved c = onto c.loop-i.invariant (λ sa sc fu w. stepped w c.loop-i-test.true c.ordinal_of-l.ensures c.if-p-l.false c.back-from.ensures c.if-val-from-eq0.false c.part_sum-acc.ensures)
+loop-i-preserved c = onto c.loop-i.invariant (λ sa sc fu w. stepped w c.loop-i-test.true c.ordinal_of-l.ensures c.if-p-l.false c.back-from.ensures (λ q. omega arith) c.part_sum-acc.ensures)
 
 pub start_of-requires : goal.start_of-requires
 start_of-requires c = c.requires.readable.ready.sizes

@@ -17,13 +17,13 @@ returns-in_default c =
 
 pub returns-then-not-all_below : goal.returns-then-not-all_below
 returns-then-not-all_below c =
-    for_beyond false c.args.p _ _ _ _ _ (filled_count c.fill.ensures c.in-Count.is).1 (below-told c.args.numbers.now _ _ _ (filled_count c.fill.ensures c.in-Count.is).0 c.all_below.ensures ∙ not-true _ c.if-not-all_below.true-raw)
+    for_beyond false c.args.p _ _ _ _ _ (filled_count c.fill.ensures c.in-Count.is).1 (below-told c.args.numbers.now _ _ _ (filled_count c.fill.ensures c.in-Count.is).0 c.all_below.ensures ∙ c.if-not-all_below.true)
 
 pub spell_all-requires : goal.spell_all-requires
 spell_all-requires c =
     let fu = filled_readable c.fill.ensures c.in-Count.is c.requires.0 (search rules) in
-    (record { sa = _; sc = _; readable = fu }, below-told c.args.numbers.now _ _ _ ((filled_count c.fill.ensures c.in-Count.is).0 ∙ sym (end_is fu)) c.all_below.ensures ∙ not-false _ c.if-not-all_below.false-raw, c.requires.2)
+    (record { sa = _; sc = _; readable = fu }, below-told c.args.numbers.now _ _ _ ((filled_count c.fill.ensures c.in-Count.is).0 ∙ sym (end_is fu)) c.all_below.ensures ∙ c.if-not-all_below.false, c.requires.2)
 
 pub returns : goal.returns
 returns c =
-    for_all false c.args.p _ _ _ _ _ _ _ _ (filled_count c.fill.ensures c.in-Count.is).1 (below-told c.args.numbers.now _ _ _ (filled_count c.fill.ensures c.in-Count.is).0 c.all_below.ensures ∙ not-false _ c.if-not-all_below.false-raw) (c.spell_all.ensures _ _ (filled_readable c.fill.ensures c.in-Count.is c.requires.0 (search rules)))
+    for_all false c.args.p _ _ _ _ _ _ _ _ (filled_count c.fill.ensures c.in-Count.is).1 (below-told c.args.numbers.now _ _ _ (filled_count c.fill.ensures c.in-Count.is).0 c.all_below.ensures ∙ c.if-not-all_below.false) (c.spell_all.ensures _ _ (filled_readable c.fill.ensures c.in-Count.is c.requires.0 (search rules)))

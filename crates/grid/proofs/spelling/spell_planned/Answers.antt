@@ -10,7 +10,7 @@ pub spell_small-requires : goal.spell_small-requires
 spell_small-requires c = (prepared_for c.requires.0 c.offsets-off.ensures c.cells_of-cells.ensures _ (omega arith), c.if-cells-le1280.true, c.requires.1, c.requires.2)
 
 pub spell_medium-requires : goal.spell_medium-requires
-spell_medium-requires c = (prepared_for c.requires.0 c.offsets-off.ensures c.cells_of-cells.ensures 2496 c.if-cells-le2496.true, c.requires.1, c.requires.2)
+spell_medium-requires c = (prepared_for c.requires.0 c.offsets-off.ensures c.cells_of-cells.ensures 2496 (omega arith), c.requires.1, c.requires.2)
 
 pub spell_large-requires : goal.spell_large-requires
 spell_large-requires c = (prepared-last c.requires.0 c.offsets-off.ensures, c.requires.1, c.requires.2)

@@ -33,7 +33,7 @@ pub loop-x-smaller : goal.loop-x-smaller
 loop-x-smaller c = omega arith
 
 pub loop-x-preserved : goal.loop-x-preserved
-loop-x-preserved c = (omega arith, omega arith, omega arith, ready_len c.loop-x.invariant.3 (omega arith), c.step-small.ensures.table, c.step-small.ensures.small (not-false _ c.if-not-small.false-raw))
+loop-x-preserved c = (omega arith, omega arith, omega arith, ready_len c.loop-x.invariant.3 (omega arith), c.step-small.ensures.table, c.step-small.ensures.small c.if-not-small.false)
 
 pub returns : goal.returns
 returns c = record { table = c.loop-x.invariant.4; start = c.loop-x.invariant.0; end = c.loop-x.invariant.1 }
