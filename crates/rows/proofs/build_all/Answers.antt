@@ -1,5 +1,5 @@
 -- `rows::build_all` meets its contract: by what is known of the block. Assumes nothing.
-use Rattle.std.proofs.Common.{◌≡◌, sym, ◌∙◌, subst, rules}
+use Rattle.std.proofs.Common.{◌≡◌, sym, ◌∙◌, subst}
 use Rattle.lines.proofs.Lining.{room_of}
 use Rattle.lines.proofs.Mines.{other-lines}
 use Rattle.lines.proofs.Knowing.{lines_no_room, lines_refusing, lines-ending}

@@ -1,5 +1,5 @@
 -- `rows::count` meets its contract: by what is known of the block. Assumes nothing.
-use Rattle.std.proofs.Common.{◌≡◌, true, subst, rules}
+use Rattle.std.proofs.Common.{◌≡◌, true, subst}
 use Rattle.rules.specs.Answers.{count_answer}
 use Rattle.lines.specs.declared.Counting.TheVariants.{NotMine}
 use Rattle.lines.proofs.Mines.{other-count}

@@ -1,5 +1,5 @@
 -- `rows::number_all` meets its contract: by what is known of the block. Assumes nothing.
-use Rattle.std.proofs.Common.{◌≡◌, leb, length, refl, subst, rules}
+use Rattle.std.proofs.Common.{◌≡◌, leb, length, refl, subst}
 use Rattle.lines.proofs.Mines.{other-ranks}
 use Rattle.lines.proofs.Knowing.{roomed, ranks_no_room, ranks_refusing, ranks-ending}
 use Rattle.rows.specs.declared.known.Known.{Known}

@@ -1,5 +1,5 @@
 -- `rows::known::known_of` meets its contract: by family, by room, and by what is made of the block. Assumes nothing.
-use Rattle.std.proofs.Common.{◌≡◌, true, rules}
+use Rattle.std.proofs.Common.{◌≡◌, true}
 use Rattle.rules.specs.Blocks.{family_of, plain}
 use Rattle.lines.proofs.Knowing.{mine_by}
 use Rattle.rows.proofs.known.known_of.Goals as goal

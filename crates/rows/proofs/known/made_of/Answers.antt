@@ -1,5 +1,5 @@
 -- `rows::known::made_of` meets its contract: by the job maker's answer. Assumes nothing.
-use Rattle.std.proofs.Common.{refl, rules}
+use Rattle.std.proofs.Common.{refl}
 use Rattle.job.proofs.Standing.{Kept, kept_of, told_of_lem}
 use Rattle.lines.proofs.Knowing.{refusing_told}
 use Rattle.rows.proofs.Plains.{plain-level, plain-answer}

@@ -1,8 +1,8 @@
 -- `rows::numbering::number_each` meets its contract: an edge more at each turn. Assumes nothing.
-use Rattle.std.proofs.Common.{◌≡◌, ◌-◌, length, get_or, rules}
+use Rattle.std.proofs.Common.{◌≡◌, get_or}
 use Rattle.rules.specs.Packs.{part_of}
 use Rattle.lines.specs.declared.Rank.{Rank}
-use Rattle.lines.proofs.Ranking.{Ranking, ranking_none, ranking_room, ranking_next, ranking_stop, ranking_all, part-rank}
+use Rattle.lines.proofs.Ranking.{ranking_none, ranking_room, ranking_next, ranking_stop, ranking_all, part-rank}
 use Rattle.rows.specs.Plains.{plain_valid, plain_number, PlainRank}
 use Rattle.rows.proofs.numbering.number_each.Goals as goal
 use Rattle.rows.proofs.numbering.number_each.Goals.{After-read}

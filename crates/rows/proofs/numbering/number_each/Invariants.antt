@@ -1,9 +1,7 @@
 -- `rows::numbering::number_each` meets its contract: an edge more at each turn. Assumes nothing.
-use Rattle.std.proofs.Common.{◌≡◌, ◌-◌, length, get_or, rules}
-use Rattle.rules.specs.Packs.{part_of}
-use Rattle.lines.specs.declared.Rank.{Rank}
-use Rattle.lines.proofs.Ranking.{Ranking, ranking_none, ranking_room, ranking_next, ranking_stop, ranking_all, part-rank}
-use Rattle.rows.specs.Plains.{plain_valid, plain_number, PlainRank}
+use Rattle.std.proofs.Common.{◌-◌, length}
+use Rattle.lines.proofs.Ranking.{Ranking}
+use Rattle.rows.specs.Plains.{plain_valid, plain_number}
 use Rattle.rows.proofs.numbering.number_each.Given as goal
 
 abbrev pub invariant-loop-i : goal.invariant-loop-i

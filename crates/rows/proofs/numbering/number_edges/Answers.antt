@@ -1,6 +1,6 @@
 -- `rows::numbering::number_edges` meets its contract: the count is over where both n and m are above 33, and else the smallest table that
 -- has room is prepared. Assumes nothing.
-use Rattle.std.proofs.Common.{◌≤◌, refl, arith, rules}
+use Rattle.std.proofs.Common.{◌≤◌, refl, arith}
 use Rattle.tables.proofs.Counted.{numbers-over}
 use Rattle.rows.specs.Plains.{plain_plan}
 use Rattle.rows.proofs.Plains.{plain_over, plain_ready, plain-last, plain-numbers}

@@ -1,6 +1,5 @@
 -- `rows::numbering::number_large` meets its contract: a blank table of the largest size is lent. Assumes nothing.
 use Rattle.job.proofs.Puts.{zeros-at}
-use Rattle.std.proofs.Common.{rules}
 use Rattle.rows.proofs.numbering.number_large.Goals as goal
 
 pub number_in-requires : goal.number_in-requires

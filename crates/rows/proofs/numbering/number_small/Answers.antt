@@ -1,6 +1,5 @@
 -- `rows::numbering::number_small` meets its contract: a blank table of the smallest size that has room is lent. Assumes nothing.
 use Rattle.tables.proofs.Planning.{blank-at}
-use Rattle.std.proofs.Common.{rules}
 use Rattle.rows.proofs.numbering.number_small.Goals as goal
 
 pub number_in-requires : goal.number_in-requires

@@ -2,7 +2,7 @@
 -- number, or the cell holds 0 and the bytes are no edge. Assumes nothing.
 use Rattle.std.proofs.Common.{◌≡◌, ◌-◌, true, get_or, sym, ◌∙◌, arith}
 use Rattle.rows.specs.Plains.{is_across}
-use Rattle.rows.proofs.PlainRows.{LedBack, led-start, led-out, led-end, Reading, reading_in, reading-back, reading-near, north-led, east-fits, east-led, no_step, across-left, across-fits, across-led}
+use Rattle.rows.proofs.PlainRows.{led-start, led-out, led-end, Reading, reading_in, reading-back, reading-near, north-led, east-fits, east-led, no_step, across-left, across-fits, across-led}
 use Rattle.rows.proofs.numbering.read.Goals as goal
 use Rattle.rows.proofs.numbering.read.Goals.{Else-not-is_across, Else-val-at-eq0}
 

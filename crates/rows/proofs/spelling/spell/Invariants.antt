@@ -1,9 +1,8 @@
 -- `rows::spelling::spell` meets its contract: at each step what is written so far and what is left make up the edge. The loop knows
 -- no plain, only numbers, so what it keeps holds of every plain that gives these. Assumes nothing.
-use Rattle.std.proofs.Common.{◌≡◌, ◌+◌, length, refl, arith, length-set}
+use Rattle.std.proofs.Common.{◌≡◌, length}
 use Rattle.rows.specs.declared.plain.Plain.{Plain}
-use Rattle.tables.proofs.Building.{writing-end}
-use Rattle.rows.proofs.PlainRows.{Given, Spelt, spelt-start, Spelling, spelling_back, spelling_near, spelling_room, north-added, east-added, across-added}
+use Rattle.rows.proofs.PlainRows.{Given, Spelt}
 use Rattle.rows.proofs.spelling.spell.Given as goal
 
 abbrev pub invariant-loop-x : goal.invariant-loop-x

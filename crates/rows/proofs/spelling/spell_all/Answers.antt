@@ -1,9 +1,8 @@
 -- `rows::spelling::spell_all` meets its contract: each edge is spelt where the one before it ends. Assumes nothing.
-use Rattle.std.proofs.Common.{◌-◌, length, arith, rules}
+use Rattle.std.proofs.Common.{arith, rules}
 use Rattle.howmany.proofs.Choices.{holds}
 use Rattle.rules.proofs.Belows.{below_at}
-use Rattle.lines.proofs.Lining.{Lining, lining_none, lining_room, lining_part, lining_all}
-use Rattle.rows.specs.Plains.{plain_edge}
+use Rattle.lines.proofs.Lining.{lining_none, lining_room, lining_part, lining_all}
 use Rattle.tables.proofs.Builds.{front-next}
 use Rattle.rows.proofs.spelling.spell_all.Goals as goal
 

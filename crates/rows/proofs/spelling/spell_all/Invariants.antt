@@ -1,10 +1,7 @@
 -- `rows::spelling::spell_all` meets its contract: each edge is spelt where the one before it ends. Assumes nothing.
-use Rattle.std.proofs.Common.{◌-◌, length, arith, rules}
-use Rattle.howmany.proofs.Choices.{holds}
-use Rattle.rules.proofs.Belows.{below_at}
-use Rattle.lines.proofs.Lining.{Lining, lining_none, lining_room, lining_part, lining_all}
+use Rattle.std.proofs.Common.{◌-◌, length}
+use Rattle.lines.proofs.Lining.{Lining}
 use Rattle.rows.specs.Plains.{plain_edge}
-use Rattle.tables.proofs.Builds.{front-next}
 use Rattle.rows.proofs.spelling.spell_all.Given as goal
 
 abbrev pub invariant-loop-i : goal.invariant-loop-i

@@ -1,6 +1,6 @@
 -- `rows::spelling::spell_edges` meets its contract: the count is over where both n and m are above 33, and else the smallest table that
 -- has room is prepared. Assumes nothing.
-use Rattle.std.proofs.Common.{◌≤◌, refl, arith, rules}
+use Rattle.std.proofs.Common.{◌≤◌, refl, arith}
 use Rattle.tables.proofs.Builds.{build-over}
 use Rattle.rows.specs.Plains.{plain_plan}
 use Rattle.rows.proofs.Plains.{plain_over, plain_ready, plain-last, plain-builds}

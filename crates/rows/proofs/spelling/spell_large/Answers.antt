@@ -1,6 +1,5 @@
 -- `rows::spelling::spell_large` meets its contract: a blank table of the largest size is lent. Assumes nothing.
 use Rattle.job.proofs.Puts.{zeros-at}
-use Rattle.std.proofs.Common.{rules}
 use Rattle.rows.proofs.spelling.spell_large.Goals as goal
 
 pub spell_in-requires : goal.spell_in-requires

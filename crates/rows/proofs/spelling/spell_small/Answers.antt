@@ -1,6 +1,5 @@
 -- `rows::spelling::spell_small` meets its contract: a blank table of the smallest size that has room is lent. Assumes nothing.
 use Rattle.tables.proofs.Planning.{blank-at}
-use Rattle.std.proofs.Common.{rules}
 use Rattle.rows.proofs.spelling.spell_small.Goals as goal
 
 pub spell_in-requires : goal.spell_in-requires

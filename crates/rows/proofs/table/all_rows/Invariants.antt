@@ -1,11 +1,7 @@
 -- `rows::table::all_rows` meets its contract: row by row. Assumes nothing.
-use Rattle.std.proofs.Common.{◌≡◌, ◌+◌, ◌-◌, ◌≤◌, length, refl, arith, rules}
-use borrow.Author.Tests.{not-false, not-true}
+use Rattle.std.proofs.Common.{◌≡◌, ◌+◌, ◌-◌, ◌≤◌, length}
 use Rattle.rows.specs.Rows.{RowsFor}
 use Rattle.rows.specs.Plains.{plain_plan, plain_right, plain_up, PlainReady}
-use Rattle.tables.proofs.Phases.{ready_len}
-use Rattle.rows.proofs.Along.{rows_none, risen_of, risen_over}
-use Rattle.rows.proofs.Plains.{plain-steps}
 use Rattle.rows.proofs.table.all_rows.Given as goal
 
 abbrev pub invariant-loop-y : goal.invariant-loop-y

@@ -1,5 +1,5 @@
 -- `rows::table::fill_rows` meets its contract: the end's cell of a table whose rows all fit has the count. Assumes nothing.
-use Rattle.std.proofs.Common.{refl, arith, rules}
+use Rattle.std.proofs.Common.{refl, arith}
 use Rattle.tables.proofs.Phases.{end-room, end-cells, filled_to-end}
 use Rattle.rows.proofs.Along.{rows-over}
 use Rattle.rows.proofs.table.fill_rows.Goals as goal
