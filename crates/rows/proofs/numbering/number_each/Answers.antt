@@ -19,9 +19,6 @@ rank c e =
 pub loop-i-init : goal.loop-i-init
 loop-i-init c = ranking_none _ _ _ _ _ _ c.requires.1
 
-pub read-requires : goal.read-requires
-read-requires c = c.requires.0
-
 pub returns-in_default : goal.returns-in_default
 returns-in_default c = ranking_stop _ _ _ _ _ _ _ _ _ c.loop-i.invariant c.loop-i-test.true (rank (goal.at.returns-in_default c).After-read c.in_default.is)
 

@@ -24,24 +24,9 @@ across : (c : Else-not-is_across) →
     is_across args.c (get_or args.e.now (c.loop-i.i - 1) 0) ≡ true
 across c = sym c.is_across.ensures ∙ c.if-not-is_across.false
 
-pub north_of-north-requires : goal.north_of-north-requires
-north_of-north-requires c = c.requires.ready.sizes
-
-pub east_of-east-requires : goal.east_of-east-requires
-east_of-east-requires c = c.requires.ready.sizes
-
-pub end_of-at-requires : goal.end_of-at-requires
-end_of-at-requires c = c.requires.ready.sizes
-
 pub loop-i-init : goal.loop-i-init
 loop-i-init c =
     led-start c.args.c c.requires c.end_of-at.ensures
-
-pub offset_bounds-val-at : goal.offset_bounds-val-at
-offset_bounds-val-at c = omega (arith, c.loop-i.invariant.inside)
-
-pub bounds-val-at : goal.bounds-val-at
-bounds-val-at c = c.loop-i.invariant.inside
 
 pub returns-then-val-at-eq0 : goal.returns-then-val-at-eq0
 returns-then-val-at-eq0 c = c.loop-i.invariant.none c.if-val-at-eq0.true
@@ -82,9 +67,6 @@ loop-i-smaller-then-b-eq-EAST c = omega (arith, (turn (goal.at.loop-i-smaller-th
 pub loop-i-preserved-then-b-eq-EAST : goal.loop-i-preserved-then-b-eq-EAST
 loop-i-preserved-then-b-eq-EAST c = east-led (turn (goal.at.loop-i-preserved-then-b-eq-EAST c).Else-val-at-eq0) c.if-b-eq-NORTH.false c.if-b-eq-EAST.true
 
-pub is_across-requires : goal.is_across-requires
-is_across-requires c = tt
-
 pub returns-then-not-is_across : goal.returns-then-not-is_across
 returns-then-not-is_across c = no_step (turn (goal.at.returns-then-not-is_across c).Else-val-at-eq0) c.if-b-eq-NORTH.false c.if-b-eq-EAST.false (sym c.is_across.ensures ∙ c.if-not-is_across.true)
 
@@ -121,21 +103,12 @@ overflow_add-acc-in-loop-i-2 c = record { fits = across-fits (turn (goal.at.over
 pub overflow_add-at : goal.overflow_add-at
 overflow_add-at c = record { fits = reading-back (turn (goal.at.overflow_add-at c).Else-val-at-eq0) }
 
-pub overflow_sub-at-in-loop-i : goal.overflow_sub-at-in-loop-i
-overflow_sub-at-in-loop-i c = c.if-at-north.false
-
 pub loop-i-smaller : goal.loop-i-smaller
 loop-i-smaller c = omega (arith, (turn (goal.at.loop-i-smaller c).Else-val-at-eq0).more)
 
 pub loop-i-preserved : goal.loop-i-preserved
 loop-i-preserved c =
     across-led (turn (goal.at.loop-i-preserved c).Else-val-at-eq0) c.if-b-eq-NORTH.false c.if-b-eq-EAST.false (across (goal.at.loop-i-preserved c).Else-not-is_across)
-
-pub stride_of-requires : goal.stride_of-requires
-stride_of-requires c = c.loop-i.invariant.full.ready.sizes
-
-pub overflow_add-stride_of : goal.overflow_add-stride_of
-overflow_add-stride_of c = record { fits = omega (arith, c.stride_of.ensures, c.loop-i.invariant.full.ready.sizes.ey_le) }
 
 pub returns-then-at-stride_of : goal.returns-then-at-stride_of
 returns-then-at-stride_of c = led-out _ c.loop-i.invariant c.loop-i-test.false (λ e. omega (arith, e, c.if-at-stride_of.true, c.stride_of.ensures))

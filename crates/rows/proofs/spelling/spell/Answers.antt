@@ -31,18 +31,6 @@ own : (c : In-loop-x) →
     Spelling args.c args.val.now args.r at.buf at.x at.at at.left at.s c.north_of-north.result c.east_of-east.result
 own c = turn c _ (given (goal.at.In-loop-x c).After-end_of-at)
 
-pub north_of-north-requires : goal.north_of-north-requires
-north_of-north-requires c = c.requires.0.ready.sizes
-
-pub east_of-east-requires : goal.east_of-east-requires
-east_of-east-requires c = c.requires.0.ready.sizes
-
-pub overflow_add-x : goal.overflow_add-x
-overflow_add-x c = omega (arith, c.requires.0.ready.sizes.ex_le)
-
-pub end_of-at-requires : goal.end_of-at-requires
-end_of-at-requires c = c.requires.0.ready.sizes
-
 pub loop-x-init : goal.loop-x-init
 loop-x-init c = (refl, λ C g. spelt-start C g)
 
@@ -60,9 +48,6 @@ bounds-val-at c = (spelling_near (own (goal.at.bounds-val-at c).In-loop-x)).nort
 
 pub bounds-buf-s : goal.bounds-buf-s
 bounds-buf-s c = (spelling_room (own (goal.at.bounds-buf-s c).In-loop-x)).1
-
-pub overflow_sub-x : goal.overflow_sub-x
-overflow_sub-x c = c.loop-x-test.true
 
 pub overflow_sub-at : goal.overflow_sub-at
 overflow_sub-at c = (north-added (own (goal.at.overflow_sub-at c).In-loop-x) c.if-left-a.true).far
@@ -84,9 +69,6 @@ bounds-val-at-in-loop-x c = (spelling_near (own (goal.at.bounds-val-at-in-loop-x
 
 pub bounds-buf-s-then-left-b : goal.bounds-buf-s-then-left-b
 bounds-buf-s-then-left-b c = (spelling_room (own (goal.at.bounds-buf-s-then-left-b c).In-loop-x)).1
-
-pub overflow_sub-x-then-left-b : goal.overflow_sub-x-then-left-b
-overflow_sub-x-then-left-b c = c.loop-x-test.true
 
 pub overflow_sub-at-then-left-b : goal.overflow_sub-at-then-left-b
 overflow_sub-at-then-left-b c = (east-added (own (goal.at.overflow_sub-at-then-left-b c).In-loop-x) c.if-left-a.false c.if-left-b.true).far

@@ -26,13 +26,6 @@ pub overflow_add-at : goal.overflow_add-at
 overflow_add-at c =
     let h = lining_room _ _ _ _ _ _ _ _ c.loop-i.invariant c.loop-i-test.true in let w = c.spell_front-n.ensures.short in search rules
 
-pub bounds-ends-i : goal.bounds-ends-i
-bounds-ends-i c =
-    omega (arith, c.loop-i.invariant.as_many, c.requires.2.for_ends)
-
-pub loop-i-smaller : goal.loop-i-smaller
-loop-i-smaller c = omega arith
-
 pub loop-i-preserved : goal.loop-i-preserved
 loop-i-preserved c =
     front-next _ _ _ _ _ _ _ _ c.loop-i.invariant _ _ c.loop-i-test.true c.spell_front-n.ensures

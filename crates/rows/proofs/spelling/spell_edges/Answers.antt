@@ -15,9 +15,6 @@ pub returns-then-lesser-gt-HIGHEST : goal.returns-then-lesser-gt-HIGHEST
 returns-then-lesser-gt-HIGHEST c =
     build-over _ _ _ _ (plain_over c.args.c c.lesser.ensures c.if-lesser-gt-HIGHEST.true)
 
-pub cells_of-cells-requires : goal.cells_of-cells-requires
-cells_of-cells-requires c = c.requires.0
-
 pub spell_small-requires : goal.spell_small-requires
 spell_small-requires c =
     (plain_ready c.args.c refl c.requires.0 (low (goal.at.spell_small-requires c).Else-lesser-gt-HIGHEST) c.cells_of-cells.ensures, c.if-cells-le1280.true, c.requires.1)

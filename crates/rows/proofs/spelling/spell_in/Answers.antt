@@ -19,9 +19,6 @@ below : (c : After-all_below) →
     all_below (plain_walks args.c) args.numbers.now ≡ c.all_below.result
 below c = below-told _ _ _ _ (counted (goal.at.After-all_below c).In-Count).0 c.all_below.ensures
 
-pub fill_rows-requires : goal.fill_rows-requires
-fill_rows-requires c = c.requires.0
-
 pub returns-in_default : goal.returns-in_default
 returns-in_default c =
     for_over true (plain_plan c.args.c) _ _ _ _ _ (filled_over c.fill_rows.ensures c.in_default.is)

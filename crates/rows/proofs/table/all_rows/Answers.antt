@@ -5,9 +5,6 @@ use Rattle.rows.proofs.Along.{rows_none, risen_of, risen_over}
 use Rattle.rows.proofs.Plains.{plain-steps}
 use Rattle.rows.proofs.table.all_rows.Goals as goal
 
-pub lesser-ey-requires : goal.lesser-ey-requires
-lesser-ey-requires c = tt
-
 pub loop-y-init : goal.loop-y-init
 loop-y-init c = (refl, omega arith, c.requires.ready, rows_none c.requires.zero_at)
 
@@ -23,14 +20,6 @@ row-requires c =
 
 pub returns-then-not-row : goal.returns-then-not-row
 returns-then-not-row c = risen_over (c.row.ensures.over c.if-not-row.true) refl
-
-pub overflow_add-y : goal.overflow_add-y
-overflow_add-y c =
-    omega (arith, c.loop-y-test.true, c.lesser-ey.ensures, c.requires.ready.sizes.ey_le)
-
-pub loop-y-smaller : goal.loop-y-smaller
-loop-y-smaller c =
-    omega (arith, c.loop-y-test.true, c.lesser-ey.ensures)
 
 pub loop-y-preserved : goal.loop-y-preserved
 loop-y-preserved c =

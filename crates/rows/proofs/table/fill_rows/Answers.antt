@@ -7,9 +7,6 @@ use Rattle.rows.proofs.table.fill_rows.Goals as goal
 pub returns-then-not-all_rows : goal.returns-then-not-all_rows
 returns-then-not-all_rows c = rows-over (c.all_rows.ensures.over c.if-not-all_rows.true)
 
-pub end_of-last-requires : goal.end_of-last-requires
-end_of-last-requires c = c.requires.ready.sizes
-
 pub offset_bounds-val-last : goal.offset_bounds-val-last
 offset_bounds-val-last c = omega (arith, c.end_of-last.ensures, end-cells c.requires.ready)
 

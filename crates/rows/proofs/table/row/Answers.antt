@@ -31,21 +31,6 @@ over : (c : After-across-b) →
     2 ^ 64 ≤ at.sum + get_or at.val (at.at - 1) 0 + c.across-b.result → 2 ^ 64 ≤ plain_walks c.args.c
 over c = row-over (turn (goal.at.After-across-b c).In-loop-i) _ _ refl c.across-b.ensures
 
-pub stride_of-stride-requires : goal.stride_of-stride-requires
-stride_of-stride-requires c = c.requires.ready.sizes
-
-pub overflow_add-n : goal.overflow_add-n
-overflow_add-n c = omega (arith, c.requires.ready.sizes.ex_le)
-
-pub lesser-requires : goal.lesser-requires
-lesser-requires c = tt
-
-pub overflow_sub-n : goal.overflow_sub-n
-overflow_sub-n c = omega (arith, c.requires.steps.wide, c.lesser.ensures)
-
-pub overflow_add-at : goal.overflow_add-at
-overflow_add-at c = omega (arith, c.requires.inside, c.requires.ready.sizes.ey_le)
-
 pub overflow_mul-at : goal.overflow_mul-at
 overflow_mul-at c = omega (arith, (begins (goal.at.overflow_mul-at c).After-lesser).small)
 
@@ -99,12 +84,6 @@ offset_bounds-val-at-in-loop-i-2 c = omega (arith, (filling_next (turn (goal.at.
 
 pub bounds-val-at-in-loop-i-2 : goal.bounds-val-at-in-loop-i-2
 bounds-val-at-in-loop-i-2 c = (filling_next (turn (goal.at.bounds-val-at-in-loop-i-2 c).In-loop-i)).1
-
-pub overflow_add-i : goal.overflow_add-i
-overflow_add-i c = omega (arith, c.loop-i-test.true)
-
-pub loop-i-smaller : goal.loop-i-smaller
-loop-i-smaller c = omega (arith, c.loop-i-test.true)
 
 pub loop-i-preserved : goal.loop-i-preserved
 loop-i-preserved c =
