@@ -1,4 +1,6 @@
 // Families 2, 4 and 5 over one theory: d says whether the family has `D`, and an arch spans v + 1.
+#![tactic(auto)]
+
 ghost use Rattle.arch.specs.Meets.{CountMeets, NumberAllMeets, BuildAllMeets};
 
 mod builder; // builder.rt: the edge of a number

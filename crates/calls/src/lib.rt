@@ -1,5 +1,7 @@
 // Count, width, number and build for all seven families: each call is answered by the crate that has the block's family. They are asked in
 // turn, `rows` first: of its smallest jobs a question more is the largest part.
+#![tactic(auto)]
+
 ghost use Rattle.std.specs.Prelude.{◌≡◌};
 ghost use Rattle.rules.specs.Width.{width_of};
 ghost use Rattle.lines.specs.Lines.{built_of};
@@ -32,7 +34,7 @@ fn width_of(count: u64) -> u8
     if count <= 1 {
         return 0;
     }
-    (64 - u64::leading_zeros(count - 1)) as u8
+    (64 - (count - 1).leading_zeros()) as u8
 }
 
 // The width of a job (document 01, "Counts").

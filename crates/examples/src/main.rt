@@ -1,5 +1,7 @@
 // Document 01's examples that aren't marked P, each refusal at its edge, the papers' tables, lists by every engine, and every small public
 // function, run: one answer a line.
+#![tactic(auto)]
+
 mod blocks; // blocks.rt: job blocks
 mod say; // say.rt: answers as lines of text
 mod counts; // counts.rt: counts and widths
@@ -11,11 +13,13 @@ mod asked; // asked.rt: a list asked of every engine
 mod lists; // lists.rt: lists of edges and of numbers
 mod small; // small.rt: letters, families, jobs, room, parts, walks
 
-fn main() {
-    counts::run();
-    refusals::run();
-    edges::run();
-    papers::run();
-    lists::run();
-    small::run();
+use std::io;
+
+fn main(rt: HostRuntime) -> io::Result<()> {
+    counts::run(&rt)?;
+    refusals::run(&rt)?;
+    edges::run(&rt)?;
+    papers::run(&rt)?;
+    lists::run(&rt)?;
+    small::run(&rt)
 }

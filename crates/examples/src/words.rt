@@ -2,113 +2,124 @@
 use crate::say;
 use job::{Built, Counted};
 use lines::{Building, Counting, Numbering, Ranked, Wrote};
+use std::io;
 use walks::{Checked, Walked};
 
-pub(crate) fn text(t: &[u8]) {
-    say::text(t);
+pub(crate) fn text(rt: &impl Print, t: &[u8]) -> io::Result<()> {
+    say::text(rt, t)
 }
 
-pub(crate) fn decimal(n: u64) {
-    say::decimal(n);
-    text(b" ");
+pub(crate) fn decimal(rt: &impl Print, n: u64) -> io::Result<()> {
+    say::decimal(rt, n)?;
+    text(rt, b" ")
 }
 
-pub(crate) fn size(n: usize) {
-    decimal(n as u64);
+pub(crate) fn size(rt: &impl Print, n: usize) -> io::Result<()> {
+    decimal(rt, n as u64)
 }
 
-pub(crate) fn end() {
-    text(b"\n");
+pub(crate) fn end(rt: &impl Print) -> io::Result<()> {
+    text(rt, b"\n")
 }
 
-pub(crate) fn yes(b: bool) {
+pub(crate) fn yes(rt: &impl Print, b: bool) -> io::Result<()> {
     if b {
-        text(b"yes ");
+        text(rt, b"yes ")?;
     } else {
-        text(b"no ");
+        text(rt, b"no ")?;
     }
+    Ok(())
 }
 
-fn refused(number: u8) {
-    say::refused(number);
-    text(b" ");
+fn refused(rt: &impl Print, number: u8) -> io::Result<()> {
+    say::refused(rt, number)?;
+    text(rt, b" ")
 }
 
-pub(crate) fn counted(r: Counted) {
+pub(crate) fn counted(rt: &impl Print, r: Counted) -> io::Result<()> {
     match r {
-        Counted::Count(c) => decimal(c),
-        Counted::Refused(k) => refused(k),
+        Counted::Count(c) => decimal(rt, c)?,
+        Counted::Refused(k) => refused(rt, k)?,
     }
+    Ok(())
 }
 
-pub(crate) fn counting(r: Counting) {
+pub(crate) fn counting(rt: &impl Print, r: Counting) -> io::Result<()> {
     match r {
-        Counting::NotMine => text(b"not mine "),
-        Counting::Mine(x) => counted(x),
+        Counting::NotMine => text(rt, b"not mine ")?,
+        Counting::Mine(x) => counted(rt, x)?,
     }
+    Ok(())
 }
 
-pub(crate) fn ranked(r: Ranked) {
+pub(crate) fn ranked(rt: &impl Print, r: Ranked) -> io::Result<()> {
     match r {
-        Ranked::NoRoom => text(b"no room "),
+        Ranked::NoRoom => text(rt, b"no room ")?,
         Ranked::Upto(n) => {
-            text(b"upto ");
-            size(n);
+            text(rt, b"upto ")?;
+            size(rt, n)?;
         }
-        Ranked::Refused(k) => refused(k),
+        Ranked::Refused(k) => refused(rt, k)?,
     }
+    Ok(())
 }
 
-pub(crate) fn numbering(r: Numbering) {
+pub(crate) fn numbering(rt: &impl Print, r: Numbering) -> io::Result<()> {
     match r {
-        Numbering::NotMine => text(b"not mine "),
-        Numbering::Mine(x) => ranked(x),
+        Numbering::NotMine => text(rt, b"not mine ")?,
+        Numbering::Mine(x) => ranked(rt, x)?,
     }
+    Ok(())
 }
 
-pub(crate) fn built(r: Built) {
+pub(crate) fn built(rt: &impl Print, r: Built) -> io::Result<()> {
     match r {
         Built::Length(n) => {
-            text(b"length ");
-            size(n);
+            text(rt, b"length ")?;
+            size(rt, n)?;
         }
-        Built::Refused(k) => refused(k),
+        Built::Refused(k) => refused(rt, k)?,
     }
+    Ok(())
 }
 
-pub(crate) fn wrote(r: Wrote) {
+pub(crate) fn wrote(rt: &impl Print, r: Wrote) -> io::Result<()> {
     match r {
-        Wrote::NoRoom => text(b"no room "),
-        Wrote::Answer(x) => built(x),
+        Wrote::NoRoom => text(rt, b"no room ")?,
+        Wrote::Answer(x) => built(rt, x)?,
     }
+    Ok(())
 }
 
-pub(crate) fn building(r: Building) {
+pub(crate) fn building(rt: &impl Print, r: Building) -> io::Result<()> {
     match r {
-        Building::NotMine => text(b"not mine "),
-        Building::Mine(x) => wrote(x),
+        Building::NotMine => text(rt, b"not mine ")?,
+        Building::Mine(x) => wrote(rt, x)?,
     }
+    Ok(())
 }
 
-pub(crate) fn walked(r: Walked) {
+pub(crate) fn walked(rt: &impl Print, r: Walked) -> io::Result<()> {
     match r {
-        Walked::Edge => text(b"edge "),
+        Walked::Edge => text(rt, b"edge ")?,
         Walked::Stops(i) => {
-            text(b"stops ");
-            size(i);
+            text(rt, b"stops ")?;
+            size(rt, i)?;
         }
-        Walked::NoJob => text(b"no job "),
+        Walked::NoJob => text(rt, b"no job ")?,
     }
+    Ok(())
 }
 
-pub(crate) fn checked(r: Checked) {
+pub(crate) fn checked(rt: &impl Print, r: Checked) -> io::Result<()> {
     match r {
-        Checked::Edges => text(b"edges "),
+        Checked::Edges => text(rt, b"edges ")?,
         Checked::Stops(i, p) => {
-            text(b"stops ");
-            size(i);
-            size(p);
+            text(rt, b"stops ")?;
+            size(rt, i)?;
+            size(rt, p)?;
         }
-        Checked::NoJob => text(b"no job "),
+        Checked::NoJob => text(rt, b"no job ")?,
     }
+    Ok(())
 }

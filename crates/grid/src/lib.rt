@@ -1,4 +1,6 @@
 // Families 6 and 7: count, number and build over the table, filled column by column.
+#![tactic(auto)]
+
 ghost use Rattle.grid.specs.Meets.{CountMeets, NumberAllMeets, BuildAllMeets};
 
 mod column;

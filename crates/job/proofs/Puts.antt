@@ -3,7 +3,7 @@
 --   put_byte                 one byte more of a copy
 --   put-room, put-short      what is written, and that nothing is; copied_put: what the kit's copy writes
 --   zeros-at                 each of a list of zeros
-use Rattle.std.proofs.Common.{◌≡◌, ℕ, zero, suc, ◌+◌, ◌<◌, ◌≤◌, List, [], ◌∷◌, ◌++◌, length, get_or, take, drop, set, replicate, sym, refl, ap, ◌∙◌, add-one, arith, length-take-le, drop-cons, take-suc, le-leb}
+use Rattle.std.proofs.Common.{◌≡◌, ℕ, zero, suc, ◌+◌, ◌<◌, ◌≤◌, List, [], ◌∷◌, ◌++◌, length, get_or, take, drop, set, replicate, sym, refl, ap, ◌∙◌, arith, drop-cons, le-leb}
 use lib.Seq.{set_at, append_snoc, take-length}
 use borrow.Author.Tests.{lt-leb}
 use Rattle.rules.specs.Refusals.{refusal_number}

@@ -1,10 +1,10 @@
 // Jobs made from their block of 20 bytes (document 01, "Job block"), and the answers that every call gives.
+#![tactic(auto)]
+
 ghost use Rattle.std.specs.Prelude.{◌≡◌, ◌+◌, ◌<◌, drop};
 ghost use Rattle.rules.specs.Blocks.{zeros, formed, sized, sized_lettered, sized_directed, small, used, is_in, twins};
 ghost use Rattle.job.specs.Made.{raised, pair_of, in_range, Whole, Pairs, held_by, refused_by, accepted_by};
 ghost use Rattle.job.specs.Meets.{PutMeets, WideMeets, FamilyOfMeets, IsPlainMeets, IsSquareMeets, IsFencedMeets, IsPairedMeets, JobOfMeets};
-
-use std::num::wrapping_add_u8;
 
 // A step's letter: `N`, `E` and `D` of families 1 to 5, and the digits `1` to `8` of families 6 and 7.
 #[derive(Drop)]
@@ -75,7 +75,8 @@ pub fn put(edge: &[u8], out: &mut [u8]) -> Built
     if out.len() < edge.len() {
         return Built::Refused(7);
     }
-    let n = bytes::copy(edge, out);
+    let n = edge.len();
+    out[..n].copy_from_slice(edge);
     Built::Length(n)
 }
 
@@ -83,7 +84,7 @@ pub fn put(edge: &[u8], out: &mut [u8]) -> Built
 fn raise(x: u8) -> u8
     ensures { result ≡ raised x }
 {
-    wrapping_add_u8(x, Job::LEVEL)
+    x.wrapping_add(Job::LEVEL)
 }
 
 // A byte as a size.

@@ -1,4 +1,6 @@
 // Which step a byte of an edge stands for: the letters N E D for families 1 to 5, the digits 1 to 8 for families 6 and 7.
+#![tactic(auto)]
+
 ghost use Rattle.std.specs.Prelude.{◌≡◌};
 ghost use Rattle.letters.specs.Meets.{OrdinalOfMeets};
 

@@ -1,5 +1,7 @@
 // Lists of edges and of numbers, as the crate of some families answers them with its counts worked out once: edges stand one after the other
 // in one lent slice, and where each of them ends in another.
+#![tactic(auto)]
+
 ghost use Rattle.std.specs.Prelude.{◌≡◌};
 ghost use Rattle.lines.specs.Lines.{lesser};
 ghost use Rattle.lines.specs.Meets.{HasRoomMeets, AllBelowMeets, PartMeets};

@@ -66,7 +66,7 @@ fn is_marked(pack: &[u8]) -> bool
     requires { 4 ≤ length pack.now }
     ensures { result ≡ same_bytes (take 4 pack.now) mark }
 {
-    check::same(&pack[0..4], &Pack::MARK)
+    &pack[0..4] == Pack::MARK.as_slice()
 }
 
 // "offsets never fall": the first c + 1 offsets.

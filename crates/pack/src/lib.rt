@@ -1,5 +1,7 @@
 // Questions on packs (document 01, "Edge pack" and "Questions on edges"; document 02, L1): edge i of a pack, the first repeat, and the
 // numbers of all edges.
+#![tactic(auto)]
+
 ghost use Rattle.pack.specs.Meets.{PartMeets, EdgeMeets, EdgeRefusalMeets, RepeatMeets, NumberAllMeets};
 
 mod layout;

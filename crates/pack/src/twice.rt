@@ -40,5 +40,5 @@ fn are_equal(pack: &[u8], i: usize, j: usize) -> bool
     requires second { EdgeAt pack.now j }
     ensures { result ≡ same_bytes (edge_in pack.now i) (edge_in pack.now j) }
 {
-    check::same(layout::edge_at(pack, i), layout::edge_at(pack, j))
+    layout::edge_at(pack, i) == layout::edge_at(pack, j)
 }

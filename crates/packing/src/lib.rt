@@ -1,4 +1,6 @@
 // Packs written from a job block and a lent list of numbers (document 01, "Edge pack").
+#![tactic(auto)]
+
 ghost use Rattle.std.specs.Prelude.{◌≡◌};
 ghost use Rattle.lines.specs.Lines.{built_of};
 ghost use Rattle.packing.specs.Packing.{TooMany};

@@ -1,10 +1,11 @@
 // The counts of families 1 and 3, with one row of the table at a time: document 01's L and D.
+#![tactic(auto)]
+
 ghost use Rattle.std.specs.Prelude.{◌≡◌, ◌≤◌, length};
 ghost use Rattle.plains.specs.Plains.{NextRow};
 ghost use Rattle.plains.specs.Meets.{CountMeets};
 
 use job::Counted;
-use std::num::wrapping_add_u64;
 
 // From the row of one column to that of the next: whether all its counts fit 64 bits. A sum that doesn't wraps, and is then below what
 // was added.
@@ -18,11 +19,11 @@ fn next_row(row: &mut [u64; 34], n: usize, diagonal: bool) -> bool
     while i <= n {
         let a = row[i];
         let b = if diagonal { before } else { 0 };
-        sum = wrapping_add_u64(sum, a);
+        sum = sum.wrapping_add(a);
         if sum < a {
             return false;
         }
-        sum = wrapping_add_u64(sum, b);
+        sum = sum.wrapping_add(b);
         if sum < b {
             return false;
         }

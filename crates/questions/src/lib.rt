@@ -1,4 +1,6 @@
 // Questions on edges (document 01): the earlier of two lent edges, and the dip of one.
+#![tactic(auto)]
+
 ghost use Rattle.std.specs.Prelude.{◌≡◌, ◌||◌, ltb};
 ghost use Rattle.questions.specs.Replies.{which_of};
 ghost use Rattle.questions.specs.Steps.{Digits, DipsAs};

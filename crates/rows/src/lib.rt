@@ -1,4 +1,6 @@
 // Families 1 and 3: count, number and build. The count keeps one row of counts; number and build fill the table, row by row.
+#![tactic(auto)]
+
 ghost use Rattle.std.specs.Prelude.{◌≡◌};
 ghost use Rattle.job.specs.Replies.{reply, count_says};
 ghost use Rattle.rows.specs.Plains.{PlainRange, plain_count};

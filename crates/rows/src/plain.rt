@@ -6,7 +6,7 @@ ghost use Rattle.rows.specs.Plains.{plain_of, plain_plan, plain_back, plain_end,
 use job::Job;
 
 // The end (n, m), and whether there is a step D.
-#[derive(Drop)]
+#[derive(Clone, Copy)]
 pub(crate) struct Plain {
     pub n: usize,
     pub m: usize,

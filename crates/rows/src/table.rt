@@ -7,7 +7,6 @@ ghost use Rattle.rows.specs.Rows.{Rowing, Rowed, Risen};
 ghost use Rattle.rows.specs.Plains.{plain_plan, plain_right, plain_up, plain_back, PlainBlank};
 
 use crate::plain::{Plain, end_of, lesser, stride_of};
-use std::num::wrapping_add_u64;
 use tables::Tally;
 
 // The first cell of row y, which stands at `at`: the one before it on the diagonal.
@@ -43,11 +42,11 @@ fn row(val: &mut [u64], c: Plain, y: usize) -> bool
     while i < n {
         let a = val[at - 1];
         let b = across(val, c.diagonal, stride, at);
-        sum = wrapping_add_u64(sum, a);
+        sum = sum.wrapping_add(a);
         if sum < a {
             return false;
         }
-        sum = wrapping_add_u64(sum, b);
+        sum = sum.wrapping_add(b);
         if sum < b {
             return false;
         }

@@ -1,4 +1,6 @@
 // The one table of families 1, 3, 6 and 7: the types that its definitions and laws speak of. The crates that fill it have the functions.
+#![tactic(auto)]
+
 use job::Job;
 
 // A count, or that it needs more than 64 bits.
@@ -9,7 +11,7 @@ pub enum Tally {
 }
 
 // A line that no walk crosses: a roof y ≤ slope · x + start, or else a fence slope · x ≤ y + start. The fence of slope 0 is no wall.
-#[derive(Drop)]
+#[derive(Clone, Copy)]
 pub struct Wall {
     pub roof: bool,
     pub slope: usize,
@@ -17,7 +19,7 @@ pub struct Wall {
 }
 
 // What the table is filled for. State 0: steps and an end; 1: nothing leads to the end.
-#[derive(Drop)]
+#[derive(Clone, Copy)]
 pub struct Shape {
     pub state: u8,
     pub k: usize,
@@ -30,7 +32,7 @@ pub struct Shape {
 }
 
 // The numbers of a shape, six times its steepest step (hi), its deepest (deep), and whether it has only the first four (few).
-#[derive(Drop)]
+#[derive(Clone, Copy)]
 pub struct Plan {
     pub few: bool,
     pub k: usize,

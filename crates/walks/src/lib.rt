@@ -1,5 +1,7 @@
 // Whether strings are valid edges of a job, by walking their steps alone, and where they go wrong (document 01, "Valid"): no table is filled,
 // and no count is worked out.
+#![tactic(auto)]
+
 ghost use Rattle.walks.specs.Meets.{WalkMeets, WalkAllMeets};
 
 mod paces; // paces.rt: the steps of a job as pairs, in every family

@@ -6,7 +6,7 @@ use job::{Job, wide};
 
 // What a walk asks of a job: whether its letters are N E D, whether it stays at y ≤ x or at y ≥ 0, its end, with m raised by 128, and its
 // steps (a,b), with b raised by 128.
-#[derive(Drop)]
+#[derive(Clone, Copy)]
 pub(crate) struct Paces {
     pub lettered: bool,
     pub square: bool,
