@@ -1,7 +1,6 @@
 -- `arch::known::known_of` meets its contract: each return by the tests that led there. Assumes nothing.
 use mathlib.Core.Path.{◌≡◌}
 use mathlib.Core.Bool.{true}
-use borrow.Author.Tests.{not-true, not-false}
 use Rattle.rules.specs.Jobs.Job.{dyck, schroder, motzkin}
 use Rattle.rules.specs.Blocks.{family_of, square}
 use Rattle.job.proofs.Standing.{kept_of, told_of_lem}
@@ -11,24 +10,24 @@ use Rattle.arch.proofs.known.known_of.Goals as goal
 use Rattle.arch.proofs.known.known_of.Goals.{Else-made-ne0, Else-not-is_square}
 
 pub returns-then-not-is_square : goal.returns-then-not-is_square
-returns-then-not-is_square c = mine_by square c.args.block.now c.family_of.ensures c.is_square.ensures (not-true _ c.if-not-is_square.true-raw)
+returns-then-not-is_square c = mine_by square c.args.block.now c.family_of.ensures c.is_square.ensures c.if-not-is_square.true
 
 -- the family is 2, 4 or 5
 own : (c : Else-not-is_square) → square (family_of c.args.block.now) ≡ true
-own c = mine_by square c.args.block.now c.family_of.ensures c.is_square.ensures (not-false _ c.if-not-is_square.false-raw)
+own c = mine_by square c.args.block.now c.family_of.ensures c.is_square.ensures c.if-not-is_square.false
 
 pub returns-then-not-room : goal.returns-then-not-room
-returns-then-not-room c = (own (goal.at.returns-then-not-room c).Else-not-is_square, not-true _ c.if-not-room.true-raw)
+returns-then-not-room c = (own (goal.at.returns-then-not-room c).Else-not-is_square, c.if-not-room.true)
 
 pub returns-then-made-ne0 : goal.returns-then-made-ne0
 returns-then-made-ne0 c =
     let block = c.args.block.now in
-    refusing_told block (own (goal.at.returns-then-made-ne0 c).Else-not-is_square) (not-false _ c.if-not-room.false-raw) (told_of_lem block c.of-made.result c.of-made.ensures c.if-made-ne0.true)
+    refusing_told block (own (goal.at.returns-then-made-ne0 c).Else-not-is_square) c.if-not-room.false (told_of_lem block c.of-made.result c.of-made.ensures c.if-made-ne0.true)
 
 held : (c : Else-made-ne0) → Held c.args.block.now c.args.room c.of-made.result.job
 held c = record {
   own = own (goal.at.Else-made-ne0 c).Else-not-is_square;
-  roomy = not-false _ c.if-not-room.false-raw;
+  roomy = c.if-not-room.false;
   kept = kept_of c.args.block.now c.of-made.result (λ i. (c.type_inv.block i).fits) c.of-made.ensures c.if-made-ne0.false;
 }
 
