@@ -1,8 +1,6 @@
 -- `grid::known::known_of` meets its contract: by family, by room, and by the job maker's answer. Assumes nothing.
-use borrow.Author.Tests.{not-true, not-false}
-use Rattle.rules.specs.Blocks.{paired}
 use Rattle.job.proofs.Standing.{kept_of, told_of_lem}
-use Rattle.lines.proofs.Knowing.{mine_by, refusing_told}
+use Rattle.lines.proofs.Knowing.{refusing_told}
 use Rattle.grid.proofs.Paired.{shape_needs, shaped_as}
 use Rattle.grid.proofs.known.known_of.Goals as goal
 

@@ -1,7 +1,6 @@
 -- `grid::spelling::spell_in` meets its contract: by the table's answer and the numbers. Assumes nothing.
 use mathlib.Core.Path.{sym, ◌∙◌}
 use mathlib.Core.Bool.{false}
-use borrow.Author.Tests.{not-true, not-false}
 use Rattle.tables.proofs.Phases.{filled_over, filled_count, filled_readable}
 use Rattle.tables.proofs.Numbers.{end_is}
 use Rattle.tables.proofs.Builds.{below-told, for_over, for_beyond, for_all}

@@ -2,7 +2,6 @@
 use mathlib.Core.Path.{refl}
 use native.Mathlib.Omega.{arith}
 use Rattle.tables.proofs.Phases.{ready_len, first_in, begin_table, begin_small, begin_ready}
-use borrow.Author.Tests.{not-false}
 use Rattle.grid.proofs.table.fast.Goals as goal
 
 pub start_of-start-requires : goal.start_of-start-requires
