@@ -1,67 +1,70 @@
 // One question of ./edges: standard input is its letter, then a pack, or the job block and the edge or the number. The answer is one line, of
 // a pack a line for each edge.
-ghost use Rattle.std.specs.Prelude.{◌<◌};
+#![tactic(auto)]
+
+ghost use Rattle.std.specs.Prelude.{◌<◌, ◌≤◌, length, IfOk};
 
 use job::{Built, Counted, Job, Numbered, Sized};
-use libc::{STDIN_FILENO, STDOUT_FILENO};
 use lines::Line;
 use pack::{Numbers, Pack};
+use std::io;
+use std::io::Read;
 
-fn text(t: &[u8]) {
-    io::write_all(STDOUT_FILENO, t);
+fn text(rt: &impl Print, t: &[u8]) -> io::Result<()> {
+    rt.write_all(t)
 }
 
-fn line(n: u64) {
-    io::print_decimal(STDOUT_FILENO, n);
-    text(b"\n");
+fn line(rt: &impl Print, n: u64) -> io::Result<()> {
+    println!(rt; "{n}")
 }
 
-fn refused(number: u8) {
-    text(b"refused ");
-    line(number as u64);
+fn refused(rt: &impl Print, number: u8) -> io::Result<()> {
+    text(rt, b"refused ")?;
+    line(rt, number as u64)
 }
 
-fn count(block: &[u8]) {
+fn count(rt: &impl Print, block: &[u8]) -> io::Result<()> {
     match calls::count(block) {
-        Counted::Count(c) => line(c),
-        Counted::Refused(r) => refused(r),
+        Counted::Count(c) => line(rt, c),
+        Counted::Refused(r) => refused(rt, r),
     }
 }
 
-fn width(block: &[u8]) {
+fn width(rt: &impl Print, block: &[u8]) -> io::Result<()> {
     match calls::width(block) {
-        Sized::Width(w) => line(w as u64),
-        Sized::Refused(r) => refused(r),
+        Sized::Width(w) => line(rt, w as u64),
+        Sized::Refused(r) => refused(rt, r),
     }
 }
 
-fn number(block: &[u8], edge: &[u8]) {
+fn number(rt: &impl Print, block: &[u8], edge: &[u8]) -> io::Result<()> {
     match calls::number(block, edge) {
-        Numbered::Number(n) => line(n),
-        Numbered::Refused(r) => refused(r),
+        Numbered::Number(n) => line(rt, n),
+        Numbered::Refused(r) => refused(rt, r),
     }
 }
 
 // An edge as the listing prints it.
-fn show(edge: &[u8]) {
+fn show(rt: &impl Print, edge: &[u8]) -> io::Result<()> {
     if edge.len() == 0 {
-        text(b"-");
+        text(rt, b"-")?;
     }
-    text(edge);
-    text(b"\n");
+    text(rt, edge)?;
+    text(rt, b"\n")
 }
 
-fn front(out: &[u8], length: usize) {
+fn front(rt: &impl Print, out: &[u8], length: usize) -> io::Result<()> {
     if length <= out.len() {
-        show(&out[0..length]);
+        show(rt, &out[0..length])?;
     }
+    Ok(())
 }
 
-fn build(block: &[u8], number: u64) {
+fn build(rt: &impl Print, block: &[u8], number: u64) -> io::Result<()> {
     let mut out = [0u8; Line::LONGEST];
     match calls::build(block, number, &mut out) {
-        Built::Length(l) => front(&out, l),
-        Built::Refused(r) => refused(r),
+        Built::Length(l) => front(rt, &out, l),
+        Built::Refused(r) => refused(rt, r),
     }
 }
 
@@ -83,60 +86,76 @@ fn number_in(b: &[u8]) -> u64 {
         + 281474976710656 * little(b[6], b[7])
 }
 
-fn answer(question: u8, block: &[u8], rest: &[u8]) {
+fn answer(rt: &impl Print, question: u8, block: &[u8], rest: &[u8]) -> io::Result<()> {
     match question {
-        b'c' => count(block),
-        b'w' => width(block),
-        b'n' => number(block, rest),
-        _ => build(block, number_in(rest)),
+        b'c' => count(rt, block),
+        b'w' => width(rt, block),
+        b'n' => number(rt, block, rest),
+        _ => build(rt, block, number_in(rest)),
     }
 }
 
 // The number and the edge of each entry.
-fn entries(bytes: &[u8], list: &[u64]) {
+fn entries(rt: &impl Print, bytes: &[u8], list: &[u64]) -> io::Result<()> {
     let mut i: usize = 0;
     while i < list.len() {
-        io::print_decimal(STDOUT_FILENO, list[i]);
-        text(b" ");
-        show(pack::edge(bytes, i));
+        print!(rt; "{}", list[i])?;
+        text(rt, b" ")?;
+        show(rt, pack::edge(bytes, i))?;
         i += 1;
     }
+    Ok(())
 }
 
-fn first_entries(bytes: &[u8], list: &[u64], c: usize) {
+fn first_entries(rt: &impl Print, bytes: &[u8], list: &[u64], c: usize) -> io::Result<()> {
     if c <= list.len() {
-        entries(bytes, &list[0..c]);
+        entries(rt, bytes, &list[0..c])?;
     }
+    Ok(())
 }
 
-fn numbers(bytes: &[u8]) {
+fn numbers(rt: &impl Print, bytes: &[u8]) -> io::Result<()> {
     let mut list = [0u64; Pack::MOST];
     match pack::number_all(bytes, &mut list) {
-        Numbers::Count(c) => first_entries(bytes, &list, c),
-        Numbers::NotEdge(_) => refused(5),
-        Numbers::Refused(r) => refused(r),
+        Numbers::Count(c) => first_entries(rt, bytes, &list, c),
+        Numbers::NotEdge(_) => refused(rt, 5),
+        Numbers::Refused(r) => refused(rt, r),
     }
 }
 
 // A pack, or else a block: "block not 20 bytes" is refused with 1.
-fn ask(input: &[u8]) {
+fn ask(rt: &impl Print, input: &[u8]) -> io::Result<()> {
     if input.len() > 0 && input[0] == b'p' {
-        numbers(&input[1..]);
-        return;
+        return numbers(rt, &input[1..]);
     }
     if input.len() <= Job::BLOCK {
-        refused(1);
-        return;
+        return refused(rt, 1);
     }
     answer(
+        rt,
         input[0],
         &input[1..Job::BLOCK + 1],
         &input[Job::BLOCK + 1..],
-    );
+    )
 }
 
-fn main() {
-    let mut input = io::large_buffer();
-    let got = io::read_full(STDIN_FILENO, &mut input);
-    ask(&input[..got]);
+// Reads until the slice is full or the input ends, and answers how many bytes were read.
+fn read_full(from: &mut impl Read, into: &mut [u8]) -> io::Result<usize>
+    ensures { IfOk result (λ n. n ≤ length into.new) }
+{
+    let mut got = 0;
+    while got < into.len() {
+        let n = from.read(&mut into[got..])?;
+        if n == 0 {
+            break;
+        }
+        got += n;
+    }
+    Ok(got)
+}
+
+fn main(rt: HostRuntime) -> io::Result<()> {
+    let mut input = [0u8; 65536];
+    let got = read_full(&mut rt.reader(), &mut input)?;
+    ask(&rt, &input[..got])
 }

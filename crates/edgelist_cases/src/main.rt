@@ -1,14 +1,14 @@
 // Listings of every kind, one after the other, as the listing program prints them.
-use job::Built;
-use libc::STDOUT_FILENO;
+#![tactic(auto)]
 
-fn print(input: &[u8]) {
+use job::Built;
+use std::io;
+
+fn print(rt: &impl Print, input: &[u8]) -> io::Result<()> {
     let mut text = [0u8; 152000];
     match listing::write(input, &mut text) {
-        Built::Length(length) => {
-            io::write_all(STDOUT_FILENO, &text[..length]);
-        }
-        Built::Refused(_) => check::expect(false), // proved never to be reached: no listing is longer
+        Built::Length(length) => rt.write_all(&text[..length]),
+        Built::Refused(_) => unreachable!(), // no listing is longer
     }
 }
 
@@ -34,44 +34,44 @@ fn directed(family: u8, n: u8, m: u8, b: u8) -> [u8; 20] {
 }
 
 // A block that is one byte short, one that is one byte too long, and no input.
-fn other_lengths() {
+fn other_lengths(rt: &impl Print) -> io::Result<()> {
     let mut short = [0u8; 19];
     short[0] = 1;
-    print(&short);
+    print(rt, &short)?;
     let mut long = [0u8; 21];
     long[0] = 1;
-    print(&long);
-    print(b"");
+    print(rt, &long)?;
+    print(rt, b"")
 }
 
-fn refusals() {
-    print(&lettered(8, 3, 3));
-    print(&directed(5, 3, 3, 1));
-    print(&lettered(1, 65, 0));
-    print(&lettered(2, 3, 4));
-    print(&directed(6, 3, 1, 255));
-    print(&lettered(1, 34, 34));
+fn refusals(rt: &impl Print) -> io::Result<()> {
+    print(rt, &lettered(8, 3, 3))?;
+    print(rt, &directed(5, 3, 3, 1))?;
+    print(rt, &lettered(1, 65, 0))?;
+    print(rt, &lettered(2, 3, 4))?;
+    print(rt, &directed(6, 3, 1, 255))?;
+    print(rt, &lettered(1, 34, 34))
 }
 
-fn few() {
-    print(&lettered(5, 3, 3));
-    print(&lettered(1, 0, 0));
-    print(&directed(7, 2, 255, 1));
-    print(&directed(6, 3, 254, 1));
-    print(&directed(7, 3, 1, 1));
+fn few(rt: &impl Print) -> io::Result<()> {
+    print(rt, &lettered(5, 3, 3))?;
+    print(rt, &lettered(1, 0, 0))?;
+    print(rt, &directed(7, 2, 255, 1))?;
+    print(rt, &directed(6, 3, 254, 1))?;
+    print(rt, &directed(7, 3, 1, 1))
 }
 
 // The count of the last is 1,001.
-fn many() {
-    print(&lettered(2, 4, 4));
-    print(&lettered(3, 2, 2));
-    print(&lettered(4, 3, 3));
-    print(&lettered(1, 10, 4));
+fn many(rt: &impl Print) -> io::Result<()> {
+    print(rt, &lettered(2, 4, 4))?;
+    print(rt, &lettered(3, 2, 2))?;
+    print(rt, &lettered(4, 3, 3))?;
+    print(rt, &lettered(1, 10, 4))
 }
 
-fn main() {
-    other_lengths();
-    refusals();
-    few();
-    many();
+fn main(rt: HostRuntime) -> io::Result<()> {
+    other_lengths(&rt)?;
+    refusals(&rt)?;
+    few(&rt)?;
+    many(&rt)
 }

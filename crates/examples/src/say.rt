@@ -39,10 +39,9 @@ pub(crate) fn width(rt: &impl Print, block: &[u8]) -> io::Result<()> {
 
 fn number_of(rt: &impl Print, block: &[u8], edge: &[u8]) -> io::Result<()> {
     match calls::number(block, edge) {
-        Numbered::Number(n) => decimal(rt, n)?,
-        Numbered::Refused(r) => refused(rt, r)?,
+        Numbered::Number(n) => decimal(rt, n),
+        Numbered::Refused(r) => refused(rt, r),
     }
-    Ok(())
 }
 
 // The edge, and its number.

@@ -38,88 +38,79 @@ fn refused(rt: &impl Print, number: u8) -> io::Result<()> {
 
 pub(crate) fn counted(rt: &impl Print, r: Counted) -> io::Result<()> {
     match r {
-        Counted::Count(c) => decimal(rt, c)?,
-        Counted::Refused(k) => refused(rt, k)?,
+        Counted::Count(c) => decimal(rt, c),
+        Counted::Refused(k) => refused(rt, k),
     }
-    Ok(())
 }
 
 pub(crate) fn counting(rt: &impl Print, r: Counting) -> io::Result<()> {
     match r {
-        Counting::NotMine => text(rt, b"not mine ")?,
-        Counting::Mine(x) => counted(rt, x)?,
+        Counting::NotMine => text(rt, b"not mine "),
+        Counting::Mine(x) => counted(rt, x),
     }
-    Ok(())
 }
 
 pub(crate) fn ranked(rt: &impl Print, r: Ranked) -> io::Result<()> {
     match r {
-        Ranked::NoRoom => text(rt, b"no room ")?,
+        Ranked::NoRoom => text(rt, b"no room "),
         Ranked::Upto(n) => {
             text(rt, b"upto ")?;
-            size(rt, n)?;
+            size(rt, n)
         }
-        Ranked::Refused(k) => refused(rt, k)?,
+        Ranked::Refused(k) => refused(rt, k),
     }
-    Ok(())
 }
 
 pub(crate) fn numbering(rt: &impl Print, r: Numbering) -> io::Result<()> {
     match r {
-        Numbering::NotMine => text(rt, b"not mine ")?,
-        Numbering::Mine(x) => ranked(rt, x)?,
+        Numbering::NotMine => text(rt, b"not mine "),
+        Numbering::Mine(x) => ranked(rt, x),
     }
-    Ok(())
 }
 
 pub(crate) fn built(rt: &impl Print, r: Built) -> io::Result<()> {
     match r {
         Built::Length(n) => {
             text(rt, b"length ")?;
-            size(rt, n)?;
+            size(rt, n)
         }
-        Built::Refused(k) => refused(rt, k)?,
+        Built::Refused(k) => refused(rt, k),
     }
-    Ok(())
 }
 
 pub(crate) fn wrote(rt: &impl Print, r: Wrote) -> io::Result<()> {
     match r {
-        Wrote::NoRoom => text(rt, b"no room ")?,
-        Wrote::Answer(x) => built(rt, x)?,
+        Wrote::NoRoom => text(rt, b"no room "),
+        Wrote::Answer(x) => built(rt, x),
     }
-    Ok(())
 }
 
 pub(crate) fn building(rt: &impl Print, r: Building) -> io::Result<()> {
     match r {
-        Building::NotMine => text(rt, b"not mine ")?,
-        Building::Mine(x) => wrote(rt, x)?,
+        Building::NotMine => text(rt, b"not mine "),
+        Building::Mine(x) => wrote(rt, x),
     }
-    Ok(())
 }
 
 pub(crate) fn walked(rt: &impl Print, r: Walked) -> io::Result<()> {
     match r {
-        Walked::Edge => text(rt, b"edge ")?,
+        Walked::Edge => text(rt, b"edge "),
         Walked::Stops(i) => {
             text(rt, b"stops ")?;
-            size(rt, i)?;
+            size(rt, i)
         }
-        Walked::NoJob => text(rt, b"no job ")?,
+        Walked::NoJob => text(rt, b"no job "),
     }
-    Ok(())
 }
 
 pub(crate) fn checked(rt: &impl Print, r: Checked) -> io::Result<()> {
     match r {
-        Checked::Edges => text(rt, b"edges ")?,
+        Checked::Edges => text(rt, b"edges "),
         Checked::Stops(i, p) => {
             text(rt, b"stops ")?;
             size(rt, i)?;
-            size(rt, p)?;
+            size(rt, p)
         }
-        Checked::NoJob => text(rt, b"no job ")?,
+        Checked::NoJob => text(rt, b"no job "),
     }
-    Ok(())
 }

@@ -72,7 +72,8 @@ pub enum Built {
 pub fn put(edge: &[u8], out: &mut [u8]) -> Built
     ensures { PutMeets edge.now out.old result out.new }
 {
-    if out.len() < edge.len() {
+    let room = edge.len();
+    if out.len() < room {
         return Built::Refused(7);
     }
     let n = edge.len();

@@ -25,7 +25,8 @@ pub fn ordinal_of(lettered: bool, b: u8) -> usize
     if b < Step::FIRST {
         return Job::STEPS;
     }
-    if Step::LAST < b {
+    let last = Step::LAST;
+    if last < b {
         return Job::STEPS;
     }
     wide(b) - Step::FIRST as usize

@@ -1,4 +1,6 @@
 // The text of a listing (document 01, "The listing program").
+#![tactic(auto)]
+
 mod pieces; // pieces.rt: the pieces of a text, each appended at a place of it
 mod body; // body.rt: the lines
 

@@ -10,8 +10,9 @@ fn append(piece: &[u8], text: &mut [u8], at: usize) -> usize
     requires { at + length piece.now ≤ length text.old }
     ensures { Appended text.old at piece.now result text.new }
 {
-    let n = bytes::copy(piece, &mut text[at..]);
-    at + n
+    let end = at + piece.len();
+    text[at..end].copy_from_slice(piece);
+    end
 }
 
 fn decimal(n: u64, text: &mut [u8], at: usize) -> usize

@@ -1,116 +1,126 @@
 // Answers as lines of text.
 use job::Built;
-use libc::STDOUT_FILENO;
 use pack::{Numbers, Parted, Repeats};
 use questions::{Dips, Which};
+use std::io;
 
-pub(crate) fn text(t: &[u8]) {
-    io::write_all(STDOUT_FILENO, t);
+pub(crate) fn text(rt: &impl Print, t: &[u8]) -> io::Result<()> {
+    rt.write_all(t)
 }
 
-fn decimal(n: usize) {
-    io::print_decimal(STDOUT_FILENO, n as u64);
+fn decimal(rt: &impl Print, n: usize) -> io::Result<()> {
+    print!(rt; "{n}")
 }
 
-fn two(word: &[u8], a: usize, b: usize) {
-    text(word);
-    decimal(a);
-    text(b" ");
-    decimal(b);
+fn two(rt: &impl Print, word: &[u8], a: usize, b: usize) -> io::Result<()> {
+    text(rt, word)?;
+    decimal(rt, a)?;
+    text(rt, b" ")?;
+    decimal(rt, b)
 }
 
-fn refused(number: u8) {
-    text(b"refused ");
-    decimal(number as usize);
+fn refused(rt: &impl Print, number: u8) -> io::Result<()> {
+    text(rt, b"refused ")?;
+    decimal(rt, number as usize)
 }
 
-fn from_to(start: usize, end: usize) {
-    two(b"from ", start, end);
+fn from_to(rt: &impl Print, start: usize, end: usize) -> io::Result<()> {
+    two(rt, b"from ", start, end)
 }
 
 // Where edge i stands, its bytes, and the partner's number.
-pub(crate) fn edge(p: &[u8], i: usize) {
+pub(crate) fn edge(rt: &impl Print, p: &[u8], i: usize) -> io::Result<()> {
     match pack::part(p, i) {
-        Parted::Part(start, end) => from_to(start, end),
-        Parted::Refused(r) => refused(r),
+        Parted::Part(start, end) => from_to(rt, start, end)?,
+        Parted::Refused(r) => refused(rt, r)?,
     }
-    text(b" [");
-    text(pack::edge(p, i));
-    text(b"] ");
-    decimal(pack::edge_refusal(p, i) as usize);
-    text(b"\n");
+    text(rt, b" [")?;
+    text(rt, pack::edge(p, i))?;
+    text(rt, b"] ")?;
+    decimal(rt, pack::edge_refusal(p, i) as usize)?;
+    text(rt, b"\n")
 }
 
-pub(crate) fn repeat(p: &[u8]) {
+pub(crate) fn repeat(rt: &impl Print, p: &[u8]) -> io::Result<()> {
     match pack::repeat(p) {
-        Repeats::At(later, earlier) => two(b"repeat ", later, earlier),
-        Repeats::Never => text(b"no repeat"),
-        Repeats::Refused(r) => refused(r),
+        Repeats::At(later, earlier) => two(rt, b"repeat ", later, earlier)?,
+        Repeats::Never => text(rt, b"no repeat")?,
+        Repeats::Refused(r) => refused(rt, r)?,
     }
-    text(b"\n");
+    text(rt, b"\n")
 }
 
-fn entries(list: &[u64]) {
-    text(b" [");
+fn entries(rt: &impl Print, list: &[u64]) -> io::Result<()> {
+    text(rt, b" [")?;
     let mut i: usize = 0;
     while i < list.len() {
-        text(b" ");
-        io::print_decimal(STDOUT_FILENO, list[i]);
+        text(rt, b" ")?;
+        print!(rt; "{}", list[i])?;
         i += 1;
     }
-    text(b" ]\n");
+    text(rt, b" ]\n")
 }
 
 // What is answered of a pack numbered whole, and the list after it.
-pub(crate) fn numbers(p: &[u8], list: &mut [u64]) {
+pub(crate) fn numbers(rt: &impl Print, p: &[u8], list: &mut [u64]) -> io::Result<()> {
     match pack::number_all(p, list) {
         Numbers::Count(c) => {
-            text(b"numbers ");
-            decimal(c);
+            text(rt, b"numbers ")?;
+            decimal(rt, c)?;
         }
         Numbers::NotEdge(i) => {
-            text(b"refused 5 at ");
-            decimal(i);
+            text(rt, b"refused 5 at ")?;
+            decimal(rt, i)?;
         }
-        Numbers::Refused(r) => refused(r),
+        Numbers::Refused(r) => refused(rt, r)?,
     }
-    entries(list);
+    entries(rt, list)
 }
 
-pub(crate) fn write(block: &[u8], numbers: &[u64], out: &mut [u8]) {
+pub(crate) fn write(
+    rt: &impl Print,
+    block: &[u8],
+    numbers: &[u64],
+    out: &mut [u8],
+) -> io::Result<()> {
     match packing::write(block, numbers, out) {
         Built::Length(l) => {
-            text(b"length ");
-            decimal(l);
+            text(rt, b"length ")?;
+            decimal(rt, l)?;
         }
-        Built::Refused(r) => refused(r),
+        Built::Refused(r) => refused(rt, r)?,
     }
-    text(b"\n");
+    text(rt, b"\n")
 }
 
-pub(crate) fn earlier<'a>(block: &[u8], a: &'a [u8], b: &'a [u8]) {
+pub(crate) fn earlier<'a>(
+    rt: &impl Print,
+    block: &[u8],
+    a: &'a [u8],
+    b: &'a [u8],
+) -> io::Result<()> {
     match questions::compare(block, a, b) {
-        Which::First => text(b"first"),
-        Which::Second => text(b"second"),
-        Which::Refused(r) => refused(r),
+        Which::First => text(rt, b"first")?,
+        Which::Second => text(rt, b"second")?,
+        Which::Refused(r) => refused(rt, r)?,
     }
-    text(b" [");
-    text(questions::earlier(block, a, b));
-    text(b"] ");
-    decimal(questions::earlier_refusal(block, a, b) as usize);
-    text(b"\n");
+    text(rt, b" [")?;
+    text(rt, questions::earlier(block, a, b))?;
+    text(rt, b"] ")?;
+    decimal(rt, questions::earlier_refusal(block, a, b) as usize)?;
+    text(rt, b"\n")
 }
 
-pub(crate) fn dip(block: &[u8], edge: &[u8]) {
-    text(edge);
-    text(b" ");
+pub(crate) fn dip(rt: &impl Print, block: &[u8], edge: &[u8]) -> io::Result<()> {
+    text(rt, edge)?;
+    text(rt, b" ")?;
     match questions::dip(block, edge) {
         Dips::At(i) => {
-            text(b"dips at ");
-            decimal(i);
+            text(rt, b"dips at ")?;
+            decimal(rt, i)?;
         }
-        Dips::Never => text(b"never dips"),
-        Dips::Refused(r) => refused(r),
+        Dips::Never => text(rt, b"never dips")?,
+        Dips::Refused(r) => refused(rt, r)?,
     }
-    text(b"\n");
+    text(rt, b"\n")
 }

@@ -1,45 +1,46 @@
 // Packs written, and read back.
 use crate::jobs::{empty_edges, lettered, twins};
 use crate::say;
+use std::io;
 
-fn read_few(pack: &[u8]) {
-    say::edge(pack, 0);
-    say::edge(pack, 1);
-    say::edge(pack, 2);
-    say::edge(pack, 65536);
-    say::edge(pack, 18446744073709551615);
-    say::repeat(pack);
+fn read_few(rt: &impl Print, pack: &[u8]) -> io::Result<()> {
+    say::edge(rt, pack, 0)?;
+    say::edge(rt, pack, 1)?;
+    say::edge(rt, pack, 2)?;
+    say::edge(rt, pack, 65536)?;
+    say::edge(rt, pack, 18446744073709551615)?;
+    say::repeat(rt, pack)
 }
 
-fn few() {
+fn few(rt: &impl Print) -> io::Result<()> {
     let mut out = [b'.'; 40];
-    say::text(b"Motzkin 3, numbers 0 and 3\n");
-    of_two(3, &mut out);
-    say::text(&out[32..]);
-    say::text(b"\n");
-    read_few(&out[0..38]);
+    say::text(rt, b"Motzkin 3, numbers 0 and 3\n")?;
+    of_two(rt, 3, &mut out)?;
+    say::text(rt, &out[32..])?;
+    say::text(rt, b"\n")?;
+    read_few(rt, &out[0..38])
 }
 
-fn none() {
+fn none(rt: &impl Print) -> io::Result<()> {
     let mut out = [b'.'; 30];
-    say::text(b"no numbers\n");
-    say::write(&lettered(5, 3, 3), &[], &mut out);
-    say::text(&out[28..]);
-    say::text(b"\n");
-    say::edge(&out[0..28], 0);
-    say::repeat(&out[0..28]);
+    say::text(rt, b"no numbers\n")?;
+    say::write(rt, &lettered(5, 3, 3), &[], &mut out)?;
+    say::text(rt, &out[28..])?;
+    say::text(rt, b"\n")?;
+    say::edge(rt, &out[0..28], 0)?;
+    say::repeat(rt, &out[0..28])
 }
 
-fn pack_of(numbers: &[u64]) {
+fn pack_of(rt: &impl Print, numbers: &[u64]) -> io::Result<()> {
     let mut out = [b'.'; 2000];
-    say::write(&lettered(1, 3, 3), numbers, &mut out);
-    say::edge(&out[0..1628], 199);
-    say::edge(&out[0..1628], 200);
-    say::repeat(&out[0..1628]);
+    say::write(rt, &lettered(1, 3, 3), numbers, &mut out)?;
+    say::edge(rt, &out[0..1628], 199)?;
+    say::edge(rt, &out[0..1628], 200)?;
+    say::repeat(rt, &out[0..1628])
 }
 
 // The job's twenty edges, again and again, c of them.
-fn many(c: usize) {
+fn many(rt: &impl Print, c: usize) -> io::Result<()> {
     let mut numbers = [0u64; 256];
     let mut i: usize = 0;
     while i < 256 {
@@ -47,52 +48,53 @@ fn many(c: usize) {
         i += 1;
     }
     if c <= 256 {
-        pack_of(&numbers[0..c]);
+        pack_of(rt, &numbers[0..c])?;
     }
+    Ok(())
 }
 
-fn full() {
-    say::text(b"200 and 201 numbers\n");
-    many(200);
-    many(201);
+fn full(rt: &impl Print) -> io::Result<()> {
+    say::text(rt, b"200 and 201 numbers\n")?;
+    many(rt, 200)?;
+    many(rt, 201)
 }
 
 // A pack of one edge, number 0.
-fn of_one(family: u8, n: u8, m: u8, out: &mut [u8]) {
-    say::write(&lettered(family, n, m), &[0], out);
+fn of_one(rt: &impl Print, family: u8, n: u8, m: u8, out: &mut [u8]) -> io::Result<()> {
+    say::write(rt, &lettered(family, n, m), &[0], out)
 }
 
 // A pack of two edges of Motzkin 3, the number 0 and another.
-fn of_two(other: u64, out: &mut [u8]) {
-    say::write(&lettered(5, 3, 3), &[0, other], out);
+fn of_two(rt: &impl Print, other: u64, out: &mut [u8]) -> io::Result<()> {
+    say::write(rt, &lettered(5, 3, 3), &[0, other], out)
 }
 
-fn refused() {
+fn refused(rt: &impl Print) -> io::Result<()> {
     let mut out = [b'.'; 37];
-    say::text(b"refused, and nothing is written: 1, 2, 3, 4, 6, 7\n");
-    of_one(8, 3, 3, &mut out);
-    of_one(1, 65, 0, &mut out);
-    say::write(&twins(), &[0], &mut out);
-    of_one(2, 37, 37, &mut out);
-    of_two(4, &mut out);
-    of_two(3, &mut out);
-    say::text(&out);
-    say::text(b"\n");
+    say::text(rt, b"refused, and nothing is written: 1, 2, 3, 4, 6, 7\n")?;
+    of_one(rt, 8, 3, 3, &mut out)?;
+    of_one(rt, 1, 65, 0, &mut out)?;
+    say::write(rt, &twins(), &[0], &mut out)?;
+    of_one(rt, 2, 37, 37, &mut out)?;
+    of_two(rt, 4, &mut out)?;
+    of_two(rt, 3, &mut out)?;
+    say::text(rt, &out)?;
+    say::text(rt, b"\n")
 }
 
-fn repeats() {
+fn repeats(rt: &impl Print) -> io::Result<()> {
     let mut out = [b'.'; 48];
-    say::text(b"A B B A, and empty edges\n");
-    say::write(&lettered(5, 3, 3), &[0, 3, 3, 0], &mut out);
-    say::repeat(&out);
-    say::edge(&empty_edges(), 1);
-    say::repeat(&empty_edges());
+    say::text(rt, b"A B B A, and empty edges\n")?;
+    say::write(rt, &lettered(5, 3, 3), &[0, 3, 3, 0], &mut out)?;
+    say::repeat(rt, &out)?;
+    say::edge(rt, &empty_edges(), 1)?;
+    say::repeat(rt, &empty_edges())
 }
 
-pub(crate) fn run() {
-    few();
-    none();
-    full();
-    refused();
-    repeats();
+pub(crate) fn run(rt: &impl Print) -> io::Result<()> {
+    few(rt)?;
+    none(rt)?;
+    full(rt)?;
+    refused(rt)?;
+    repeats(rt)
 }

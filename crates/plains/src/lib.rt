@@ -20,7 +20,8 @@ fn next_row(row: &mut [u64; 34], n: usize, diagonal: bool) -> bool
         let a = row[i];
         let b = if diagonal { before } else { 0 };
         sum = sum.wrapping_add(a);
-        if sum < a {
+        let least = a;
+        if sum < least {
             return false;
         }
         sum = sum.wrapping_add(b);
@@ -55,7 +56,8 @@ fn count_rows(n: usize, m: usize, diagonal: bool) -> Counted
 pub fn count(n: u8, m: u8, diagonal: bool) -> Counted
     ensures { CountMeets n m diagonal result }
 {
-    if n <= 33 {
+    let rows: u8 = 33;
+    if n <= rows {
         return count_rows(n as usize, m as usize, diagonal);
     }
     if m <= 33 {

@@ -19,8 +19,8 @@ returns-then-lettered c = place_no _ _ c.if-lettered.true c.if-b-eq-NORTH.false 
 pub returns-then-b-lt-FIRST : goal.returns-then-b-lt-FIRST
 returns-then-b-lt-FIRST c = place-low _ _ c.if-lettered.false c.if-b-lt-FIRST.true
 
-pub returns-then-b-gt-LAST : goal.returns-then-b-gt-LAST
-returns-then-b-gt-LAST c = place-high _ _ c.if-lettered.false c.if-b-lt-FIRST.false c.if-b-gt-LAST.true
+pub returns-then-last-b : goal.returns-then-last-b
+returns-then-last-b c = place-high _ _ c.if-lettered.false c.if-b-lt-FIRST.false c.if-last-b.true
 
 pub returns : goal.returns
-returns c = ap (λ (z : ℕ). z - 49) c.wide.ensures ∙ place-digit _ _ c.if-lettered.false c.if-b-lt-FIRST.false c.if-b-gt-LAST.false
+returns c = ap (λ (z : ℕ). z - 49) c.wide.ensures ∙ place-digit _ _ c.if-lettered.false c.if-b-lt-FIRST.false c.if-last-b.false

@@ -1,11 +1,11 @@
 -- By rows of the lesser of n and m; n and m may be turned. Assumes nothing.
-use Rattle.std.proofs.Common.{◌∙◌, arith, rules}
+use Rattle.std.proofs.Common.{◌∙◌, arith}
 use Rattle.plains.proofs.Ends.{ends-over}
 use Rattle.plains.proofs.Rows.{over-says, turned-says}
 use Rattle.plains.proofs.count.Goals as goal
 
 pub count_rows-requires : goal.count_rows-requires
-count_rows-requires c = omega (arith, c.if-n-le33.true)
+count_rows-requires c = omega (arith, c.if-n-rows.true)
 
 pub count_rows-requires-then-m-le33 : goal.count_rows-requires-then-m-le33
 count_rows-requires-then-m-le33 c = omega (arith, c.if-m-le33.true)
@@ -16,4 +16,4 @@ returns-then-m-le33 c =
 
 pub returns : goal.returns
 returns c =
-    over-says c.args.diagonal c.args.n c.args.m (ends-over c.args.diagonal c.args.n c.args.m c.if-n-le33.false c.if-m-le33.false)
+    over-says c.args.diagonal c.args.n c.args.m (ends-over c.args.diagonal c.args.n c.args.m c.if-n-rows.false c.if-m-le33.false)

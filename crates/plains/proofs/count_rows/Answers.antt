@@ -1,8 +1,7 @@
 -- The loop over the rows: each is made from the one before it. Assumes nothing.
-use Rattle.std.proofs.Common.{◌≡◌, ℕ, ◌-◌, ◌^◌, ◌<◌, ◌≤◌, length, ◌∙◌, zero-le, le_refl}
+use Rattle.std.proofs.Common.{ℕ, ◌∙◌, zero-le, le_refl}
 use lib.ListN.{length-replicate}
 use borrow.Author.Tests.{not-true, not-false}
-use Rattle.plains.specs.Plains.{ends, Row}
 use Rattle.plains.proofs.Rows.{first-row, first_fits, row_last, less-fits, left_less, one_on, at_last, place_in, place-fits, over-says, count-says, over-later}
 use Rattle.plains.proofs.count_rows.Goals as goal
 

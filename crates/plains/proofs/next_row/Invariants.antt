@@ -1,10 +1,8 @@
 -- The loop along the row: what was made so far, for whatever row it was given. Assumes nothing.
 -- the turn, once both sums are made
-use Rattle.std.proofs.Common.{◌≡◌, ℕ, ◌+◌, ◌-◌, ◌^◌, ◌<◌, ◌≤◌, length, refl, ◌∙◌, ⊎_elim, le_refl, lit<, length-set}
-use Rattle.howmany.specs.Choose.{pick}
+use Rattle.std.proofs.Common.{◌≡◌, ℕ, ◌+◌, ◌-◌, ◌^◌, ◌<◌, ◌≤◌, length}
 use Rattle.plains.specs.Plains.{Row}
-use Rattle.plains.proofs.Wraps.{wrap_out, wrapped_in, wrapped_out, wrapped_fits}
-use Rattle.plains.proofs.Rows.{Between, picked-yes, picked_no, le-more, le-more-left, in_long, place_in, place-fits, next_fits, next-less, next_le, between_start, between_next, between-over, row-all, row-over}
+use Rattle.plains.proofs.Rows.{Between}
 use Rattle.plains.proofs.next_row.Given as goal
 
 abbrev pub invariant-loop-i : goal.invariant-loop-i

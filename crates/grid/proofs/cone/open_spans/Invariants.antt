@@ -1,0 +1,11 @@
+-- `grid::cone::open_spans` meets its contract: one column after the other. Assumes nothing.
+use Prim.Native.Nat.{◌+◌, ◌-◌}
+use Rattle.tables.specs.Form.{unwalled}
+use Rattle.grid.proofs.Spanning.{SpansTo}
+use Rattle.grid.proofs.cone.open_spans.Given as goal
+
+abbrev pub invariant-loop-x : goal.invariant-loop-x
+invariant-loop-x l = SpansTo unwalled l.hi l.ex l.ey l.starts l.stops l.x
+
+abbrev pub decreases-loop-x : goal.decreases-loop-x
+decreases-loop-x l = l.ex + 1 - l.x

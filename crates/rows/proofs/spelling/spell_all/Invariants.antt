@@ -1,0 +1,11 @@
+-- `rows::spelling::spell_all` meets its contract: each edge is spelt where the one before it ends. Assumes nothing.
+use Rattle.std.proofs.Common.{◌-◌, length}
+use Rattle.lines.proofs.Lining.{Lining}
+use Rattle.rows.specs.Plains.{plain_edge}
+use Rattle.rows.proofs.spelling.spell_all.Given as goal
+
+abbrev pub invariant-loop-i : goal.invariant-loop-i
+invariant-loop-i l = Lining (plain_edge l.c) l.numbers l.initial.steps l.initial.ends l.i l.at l.steps l.ends
+
+abbrev pub decreases-loop-i : goal.decreases-loop-i
+decreases-loop-i l = length l.numbers - l.i
