@@ -20,7 +20,7 @@
  * A null pointer with length 0 is an empty slice. Every other pointer is to as many bytes (or numbers) as are said
  * to be there. Lent buffers don't overlap, single outputs included.
  *
- * Link with libedges.a, which `rt staticlib edges` writes to target/staticlib/.
+ * Link with libedges.a, which `tools/archive` writes to target/staticlib/.
  */
 #ifndef EDGES_H
 #define EDGES_H
