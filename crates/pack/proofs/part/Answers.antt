@@ -15,7 +15,7 @@ read : (c : Else-refusal-ne0) → Read c.args.pack.now
 read c = read_of c.args.pack.now _ c.refusal_of-refusal.ensures c.if-refusal-ne0.false
 
 below : (c : Else-edge_count-i) → c.args.i < count_in c.args.pack.now
-below c = omega (arith, c.IsEdge-count.ensures.0, c.if-edge_count-i.false)
+below c = omega (arith, c.edge_count.ensures.0, c.if-edge_count-i.false)
 
 edge : (c : Else-edge_count-i) → EdgeAt c.args.pack.now c.args.i
 edge c = (read (goal.at.Else-edge_count-i c).Else-refusal-ne0).layout.edge _ (below c)
@@ -27,7 +27,7 @@ pub edge_count-requires : goal.edge_count-requires
 edge_count-requires c = (read (goal.at.edge_count-requires c).Else-refusal-ne0).layout.least
 
 pub returns-then-edge_count-i : goal.returns-then-edge_count-i
-returns-then-edge_count-i c = part_none c.args.pack.now c.args.i (read (goal.at.returns-then-edge_count-i c).Else-refusal-ne0) (omega (arith, c.IsEdge-count.ensures.0, c.if-edge_count-i.true))
+returns-then-edge_count-i c = part_none c.args.pack.now c.args.i (read (goal.at.returns-then-edge_count-i c).Else-refusal-ne0) (omega (arith, c.edge_count.ensures.0, c.if-edge_count-i.true))
 
 pub offset_at-requires : goal.offset_at-requires
 offset_at-requires c = omega (arith, (edge (goal.at.offset_at-requires c).Else-edge_count-i).table)

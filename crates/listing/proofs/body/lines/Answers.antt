@@ -12,14 +12,14 @@ use Rattle.listing.proofs.body.lines.Goals.{After-built}
 
 pub slice_bounds-build_all-end : goal.slice_bounds-build_all-end
 slice_bounds-build_all-end c =
-    sym (length-take-le _ _ (omega (arith, c.Shown-of.ensures, min-le_right c.args.count 1000)))
+    sym (length-take-le _ _ (omega (arith, c.shown_of-many.ensures, min-le_right c.args.count 1000)))
 
 -- the edges of the numbers from 0 up are lined up
 here : (c : After-built) →
     let last = c.build_all.new in
-    Listed c.args.block.now c.Shown-of.result c.built.result last.1.1.0 last.1.1.1.0
+    Listed c.args.block.now c.shown_of-many.result c.built.result last.1.1.0 last.1.1.1.0
 here c =
-    listed _ _ c.requires.counted _ c.count_up.ensures (omega arith) _ c.Shown-of.ensures
+    listed _ _ c.requires.counted _ c.count_up.ensures (omega arith) _ c.shown_of-many.ensures
     (replicate 128000 0) (replicate 1000 0) (length-replicate {A = ℕ} 128000 0) (length-replicate {A = ℕ} 1000 0) _ _ _ _ c.built.ensures c.build_all.ensures
 
 pub lines_of-requires : goal.lines_of-requires

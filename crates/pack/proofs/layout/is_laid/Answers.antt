@@ -23,11 +23,11 @@ returns-then-not-is_marked c = sym (laid-at _ _ refl ∙ simp (le-leb _ _ c.if-p
 -- length and mark are right, so what is left is about the table of c offsets
 table : (c : After-edge_count-c) →
     let pack = c.args.pack.now in
-    let n = c.IsEdge-count.result in
+    let n = c.edge_count-c.result in
     laid pack
     ≡ (leb n 200 && (leb (shortest + 2 * n) (length pack) && (eqb (offset pack 0) (shortest + 2 * n) && (rises pack n && eqb (offset pack n) (length pack)))))
 table c =
-    laid-at _ _ c.IsEdge-count.ensures.0 ∙ simp (
+    laid-at _ _ c.edge_count-c.ensures.0 ∙ simp (
       le-leb _ _ c.if-pack-lt-SHORTEST.false,
       le-leb _ _ c.if-pack-gt-LONGEST.false,
       sym c.is_marked.ensures ∙ not-false _ c.if-not-is_marked.false-raw,
@@ -42,7 +42,7 @@ returns-then-pack-first c = sym (table (goal.at.returns-then-pack-first c).After
 -- there is room for the table, so what is left is about the offsets
 offsets : (c : Else-pack-first) →
     let pack = c.args.pack.now in
-    let n = c.IsEdge-count.result in
+    let n = c.edge_count-c.result in
     laid pack ≡ (eqb (offset pack 0) (shortest + 2 * n) && (rises pack n && eqb (offset pack n) (length pack)))
 offsets c = table (goal.at.Else-pack-first c).After-edge_count-c ∙ simp (le-leb _ _ c.if-c-gt-MOST.false, le-leb _ _ c.if-pack-first.false)
 

@@ -24,18 +24,18 @@ offset_at-requires c =
 
 pub slice_bounds-ends-end : goal.slice_bounds-ends-end
 slice_bounds-ends-end c =
-    omega (arith, c.ends_of-ends.ensures.long, c.IsEdge-count.ensures.0, c.requires.few)
+    omega (arith, c.ends_of-ends.ensures.long, c.edge_count-c.ensures.0, c.requires.few)
 
 pub slice_bounds-walk_all-end : goal.slice_bounds-walk_all-end
 slice_bounds-walk_all-end c =
-    sym (length-take-le _ _ (omega (arith, c.ends_of-ends.ensures.long, c.IsEdge-count.ensures.0, c.requires.few)))
+    sym (length-take-le _ _ (omega (arith, c.ends_of-ends.ensures.long, c.edge_count-c.ensures.0, c.requires.few)))
 
 -- what is walked are the edges
 edges : (c : After-walk_all) →
     let pack = c.args.pack.now in
-    cut_from c.offset_at.result (take c.IsEdge-count.result c.ends_of-ends.result) pack ≡ edges_in pack
+    cut_from c.offset_at.result (take c.edge_count-c.result c.ends_of-ends.result) pack ≡ edges_in pack
 edges c =
-    let many = c.IsEdge-count.ensures.0 in
+    let many = c.edge_count-c.ensures.0 in
     cut-edges _ _ _ _ many (omega (arith, many, c.requires.few)) c.offset_at.ensures c.ends_of-ends.ensures
 
 pub returns-in-Edges : goal.returns-in-Edges

@@ -30,8 +30,8 @@ unfolding least
 loop-earlier-init c = (omega arith, refl)
 
 -- an edge of the pack
-edge : (c : After-edge_count-c) (i : ℕ) → i < c.IsEdge-count.result → EdgeAt c.args.pack.now i
-edge c i l = c.requires.edge i (omega (arith, c.IsEdge-count.ensures.0))
+edge : (c : After-edge_count-c) (i : ℕ) → i < c.edge_count-c.result → EdgeAt c.args.pack.now i
+edge c i l = c.requires.edge i (omega (arith, c.edge_count-c.ensures.0))
 
 pub are_equal-requires : goal.are_equal-requires
 are_equal-requires c = (edge (goal.at.are_equal-requires c).After-edge_count-c _ c.search-test.true, edge (goal.at.are_equal-requires c).After-edge_count-c _ (omega arith))
@@ -47,7 +47,7 @@ returns-then-later-c c =
     ⊎_elim
     (λ w. absurd (omega (arith, w.0.left)))
     (λ w.
-    let l : w.1.earlier < c.IsEdge-count.result = omega (arith, w.2.taken, c.if-later-c.true) in
+    let l : w.1.earlier < c.edge_count-c.result = omega (arith, w.2.taken, c.if-later-c.true) in
     rw w.5
     (told (goal.at.returns-then-later-c c).After-edge_count-c (twice_at _ _ _ c.search.invariant.1 w.1.inv.1 (equals-is _ _ _ _ c.if-later-c.true l ∙ sym w.3.ensures ∙ w.4.taken) w.2.taken
     (omega (arith, long (goal.at.returns-then-later-c c).After-edge_count-c, c.if-later-c.true)))))
@@ -62,8 +62,8 @@ returns-else-later-c c =
 -- |   abbrev pack : List ℕ
 -- |   pack = c.before.before.args.pack.now
 -- |   abbrev edges : List (List ℕ)
--- |   edges = edges_from pack 0 c.IsEdge-count.result
--- |   long : length edges ≡ c.IsEdge-count.result
--- |   long = edges-length pack 0 c.IsEdge-count.result
+-- |   edges = edges_from pack 0 c.edge-count.result
+-- |   long : length edges ≡ c.edge-count.result
+-- |   long = edges-length pack 0 c.edge-count.result
 -- |   told : {x : Option Twice} → twice_in edges ≡ x → value x ≡ value (twice_in (edges_from pack 0 (count_in pack)))
--- |   told e = ap value (sym e) ∙ ap (λ (n : ℕ). value (twice_in (edges_from pack 0 n))) c.IsEdge-count.ensures.0
+-- |   told e = ap value (sym e) ∙ ap (λ (n : ℕ). value (twice_in (edges_from pack 0 n))) c.edge-count.ensures.0

@@ -17,28 +17,28 @@ use Rattle.pack.proofs.whole.number_edges.Goals.{After-number_all}
 
 pub slice_bounds-number_all-end : goal.slice_bounds-number_all-end
 slice_bounds-number_all-end c =
-    sym (length-take-le _ _ (omega (arith, c.ends_of-ends.ensures.long, c.IsEdge-count.ensures.0, c.requires.few)))
+    sym (length-take-le _ _ (omega (arith, c.ends_of-ends.ensures.long, c.edge_count-c.ensures.0, c.requires.few)))
 
 -- as many as there are
-few : (c : After-number_all) → c.IsEdge-count.result ≤ 200
-few c = omega (arith, c.IsEdge-count.ensures.0, c.requires.few)
+few : (c : After-number_all) → c.edge_count-c.result ≤ 200
+few c = omega (arith, c.edge_count-c.ensures.0, c.requires.few)
 
 -- the parts that are numbered are the edges
 edges : (c : After-number_all) →
     let pack = c.args.pack.now in
-    cut_from c.offset_at.result (take c.IsEdge-count.result c.ends_of-ends.result) pack ≡ edges_in pack
-edges c = cut-edges _ _ _ _ c.IsEdge-count.ensures.0 (few c) c.offset_at.ensures c.ends_of-ends.ensures
+    cut_from c.offset_at.result (take c.edge_count-c.result c.ends_of-ends.result) pack ≡ edges_in pack
+edges c = cut-edges _ _ _ _ c.edge_count-c.ensures.0 (few c) c.offset_at.ensures c.ends_of-ends.ensures
 
-long : (c : After-number_all) → length (take c.IsEdge-count.result c.ends_of-ends.result) ≡ c.IsEdge-count.result
+long : (c : After-number_all) → length (take c.edge_count-c.result c.ends_of-ends.result) ≡ c.edge_count-c.result
 long c = length-take-le _ _ (omega (arith, few c, c.ends_of-ends.ensures.long))
 
 says : (c : After-number_all) →
     let args = c.args in
-    (x : Ranked) → c.number_all.result ≡ x → WholeSays args.pack.now args.list.now c.number_all.new.1.1.1.1.0 c.IsEdge-count.result x
+    (x : Ranked) → c.number_all.result ≡ x → WholeSays args.pack.now args.list.now c.number_all.new.1.1.1.1.0 c.edge_count-c.result x
 says c x q =
     let args = c.args in
-    let many = edges-length args.pack.now 0 (count_in args.pack.now) ∙ sym c.IsEdge-count.ensures.0 in
-    whole_says args.pack.now args.list.now (replicate 200 0) c.number_all.new.1.1.1.1.0 c.IsEdge-count.result
+    let many = edges-length args.pack.now 0 (count_in args.pack.now) ∙ sym c.edge_count-c.ensures.0 in
+    whole_says args.pack.now args.list.now (replicate 200 0) c.number_all.new.1.1.1.1.0 c.edge_count-c.result
     many (omega (arith, few c, length-replicate {A = ℕ} 200 0)) x (rw (q, edges c, long c) at c.number_all.ensures)
 
 pub slice_bounds-keep-end : goal.slice_bounds-keep-end
