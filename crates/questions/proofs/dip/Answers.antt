@@ -1,7 +1,6 @@
 -- `questions::dip` meets its contract: by the job maker's answer, the count, the family, and the walk of the edge. Assumes nothing.
 use mathlib.Core.Path.{◌≡◌, sym, ap, ◌∙◌}
 use mathlib.Core.Bool.{true}
-use borrow.Author.Rules.{rules}
 use borrow.Author.Tests.{not-true, not-false}
 use Rattle.rules.specs.Blocks.{paired}
 use Rattle.rules.specs.Answers.{count_answer}
@@ -18,13 +17,13 @@ returns-then-refusal-ne0 c =
 
 pub returns-in-Refused : goal.returns-in-Refused
 returns-in-Refused c =
-    dip-over c.args.block.now c.args.edge.now _ (sym (ap count_says c.in-Refused-2.is) ∙ c.count.ensures)
+    dip-over c.args.block.now c.args.edge.now _ (sym (ap count_says c.in-Refused.is) ∙ c.count.ensures)
 
 -- the job that the block has; its count fits; it has pairs
 kept : (c : Else-refusal-ne0) → Kept c.args.block.now c.of-made.result.job
 kept c = kept_of _ c.of-made.result (λ i. (c.type_inv.block i).fits) c.of-made.ensures c.if-refusal-ne0.false
 
-fits : (c : In_default) → value c.enum_told-1.given.0.0 ≡ reply (count_answer c.args.block.now)
+fits : (c : In_default) → value c.in_default.field-0 ≡ reply (count_answer c.args.block.now)
 fits c = sym (ap count_says c.in_default.is) ∙ c.count.ensures
 
 has-pairs : (c : Else-not-is_paired) → paired c.of-made.result.job.family ≡ true

@@ -1,7 +1,6 @@
 -- `questions::earlier` meets its contract: by what the comparison says, one of the lent edges itself, or its empty front. Assumes nothing.
 use mathlib.Core.Path.{◌≡◌, refl, sym, ap, ◌∙◌}
 use mathlib.Core.Bool.{Bool}
-use borrow.Author.Rules.{rules}
 use Rattle.rules.specs.Refusals.{Answer}
 use Rattle.rules.specs.Questions.{second_answer}
 use Rattle.job.specs.Replies.{reply}
@@ -12,8 +11,8 @@ use Rattle.questions.proofs.earlier.Goals as goal
 use Rattle.questions.proofs.earlier.Goals.{After-compare}
 
 -- what is asked, and what the comparison says of it
-abbrev asked : tie.After-compare → Answer Bool
-asked c = second_answer c.before.before.before.before.args.block.now c.before.before.before.before.args.a.now c.before.before.before.before.args.b.now
+abbrev asked : After-compare → Answer Bool
+asked c = second_answer c.args.block.now c.args.a.now c.args.b.now
 
 says : (c : After-compare) {w : Which} → c.compare.result ≡ w → which_says w ≡ reply (asked c)
 says c e = sym (ap which_says e) ∙ c.compare.ensures

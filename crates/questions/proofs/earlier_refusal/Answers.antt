@@ -1,7 +1,6 @@
 -- `questions::earlier_refusal` meets its contract: the comparison's refusal, or 0. Assumes nothing.
 use mathlib.Core.Path.{◌≡◌, sym, ap, ◌∙◌}
 use mathlib.Core.Bool.{Bool}
-use borrow.Author.Rules.{rules}
 use Rattle.rules.specs.Refusals.{Answer}
 use Rattle.rules.specs.Questions.{second_answer}
 use Rattle.job.specs.Replies.{reply}
@@ -12,8 +11,8 @@ use Rattle.questions.proofs.earlier_refusal.Goals as goal
 use Rattle.questions.proofs.earlier_refusal.Goals.{After-compare}
 
 -- what is asked, and what the comparison says of it
-abbrev asked : tie.After-compare → Answer Bool
-asked c = second_answer c.before.before.before.before.args.block.now c.before.before.before.before.args.a.now c.before.before.before.before.args.b.now
+abbrev asked : After-compare → Answer Bool
+asked c = second_answer c.args.block.now c.args.a.now c.args.b.now
 
 says : (c : After-compare) {w : Which} → c.compare.result ≡ w → which_says w ≡ reply (asked c)
 says c e = sym (ap which_says e) ∙ c.compare.ensures
@@ -25,4 +24,4 @@ pub returns-in-Second : goal.returns-in-Second
 returns-in-Second c = refusal-none (asked (goal.at.returns-in-Second c).After-compare) _ (says (goal.at.returns-in-Second c).After-compare c.in-Second.is)
 
 pub returns-in-Refused : goal.returns-in-Refused
-returns-in-Refused c = refusal-some (asked (goal.at.returns-in-Refused c).After-compare) _ (says (goal.at.returns-in-Refused c).After-compare c.in-Refused-2.is)
+returns-in-Refused c = refusal-some (asked (goal.at.returns-in-Refused c).After-compare) _ (says (goal.at.returns-in-Refused c).After-compare c.in-Refused.is)

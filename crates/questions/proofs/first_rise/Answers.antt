@@ -1,13 +1,12 @@
 -- `questions::first_rise` meets its contract. The loop's invariant: no step so far rises after a fall, and `fallen` says whether one of
 -- them falls. Assumes nothing.
 use mathlib.Core.Path.{ap}
-use mathlib.Core.Logic.{⊎_elim}
 use Prim.Native.Nat.{ℕ, ◌-◌}
 use native.Mathlib.Omega.{arith}
-use lib.ListN.{length, get_or}
-use borrow.Author.Rules.{rules}
-use Rattle.questions.proofs.Dipping.{Looking, looking_start, looking_more, not_fallen, not_rising, dips-at, dips-never}
+use lib.ListN.{get_or}
+use Rattle.questions.proofs.Dipping.{looking_start, looking_more, not_fallen, not_rising, dips-at, dips-never}
 use Rattle.questions.proofs.first_rise.Goals as goal
+use Rattle.questions.proofs.first_rise.Goals.{then-up-gt-LEVEL+else-fallen, else-up-gt-LEVEL}
 
 pub loop-i-init : goal.loop-i-init
 loop-i-init c =
@@ -39,7 +38,10 @@ loop-i-smaller c =
 
 pub loop-i-preserved : goal.loop-i-preserved
 loop-i-preserved c =
-    looking_more c.loop-i.invariant c.loop-i-test.true (ap (λ (k : ℕ). get_or c.args.job.b (k - 49) 0) c.wide.ensures) (⊎_elim (λ w. not_fallen (get_or c.args.job.b (c.wide.result - 49) 0) w.1.left) (λ w. not_rising _ w.left) c.if-up-gt-LEVEL.branch) c.remembered-fallen.ensures
+    elim c.if-up-gt-LEVEL.branch [
+      | then-up-gt-LEVEL+else-fallen w ↦ looking_more c.loop-i.invariant c.loop-i-test.true (ap (λ (k : ℕ). get_or c.args.job.b (k - 49) 0) c.wide.ensures) (not_fallen (get_or c.args.job.b (c.wide.result - 49) 0) w.if-fallen.false) c.remembered-fallen.ensures
+      | else-up-gt-LEVEL w ↦ looking_more c.loop-i.invariant c.loop-i-test.true (ap (λ (k : ℕ). get_or c.args.job.b (k - 49) 0) c.wide.ensures) (not_rising _ w.if-up-gt-LEVEL.false) c.remembered-fallen.ensures
+    ]
 
 pub returns : goal.returns
 returns c =
