@@ -31,7 +31,8 @@ pub fn count(block: &[u8]) -> Counted
 fn width_of(count: u64) -> u8
     ensures { result ≡ width_of count }
 {
-    if count <= 1 {
+    let single: u64 = 1;
+    if count <= single {
         return 0;
     }
     (64 - (count - 1).leading_zeros()) as u8
@@ -132,7 +133,8 @@ pub fn build(block: &[u8], number: u64, out: &mut [u8]) -> Built
 {
     let numbers = [number];
     let mut ends = [0usize; 1];
-    if Line::LONGEST <= out.len() {
+    let any_fits = Line::LONGEST <= out.len();
+    if any_fits {
         return built(build_all(block, &numbers, out, &mut ends));
     }
     let mut steps = [0u8; Line::LONGEST];

@@ -116,7 +116,8 @@ pub fn dip(block: &[u8], edge: &[u8]) -> Dips
         return Dips::Refused(r);
     }
     let job = made.job;
-    if !job::is_paired(job.family) {
+    let without_steps = !job::is_paired(job.family);
+    if without_steps {
         return Dips::Refused(11);
     }
     match walks::walk(block, edge) {

@@ -25,10 +25,10 @@ one c =
     one-built args.block.now args.number (replicate 128 0) (replicate 1 0) steps-long ends-long _ _ _ _ _
     c.built-2.ensures c.in-Length.is c.build_all-2.ensures
 
-pub returns-then-out-ge-LONGEST : goal.returns-then-out-ge-LONGEST
-returns-then-out-ge-LONGEST c =
+pub returns-then-any_fits : goal.returns-then-any_fits
+returns-then-any_fits c =
     let args = c.args in
-    one-whole args.block.now args.number args.out.now (replicate 1 0) c.if-out-ge-LONGEST.true ends-long _ _ _ _
+    one-whole args.block.now args.number args.out.now (replicate 1 0) c.if-any_fits.true ends-long _ _ _ _
     c.built.ensures (search rules) c.build_all.ensures
 
 pub slice_bounds-steps-end : goal.slice_bounds-steps-end

@@ -46,11 +46,11 @@ returns-in-Mine-build_all-2 c =
 pub returns-then-not-has_room : goal.returns-then-not-has_room
 returns-then-not-has_room c =
     let same = same-grid (goal.at.returns-then-not-has_room c).In_default-build_all-2 in
-    lines-short-over _ _ same.0 same.1 (sym c.has_room.ensures ∙ not-true _ c.if-not-has_room.true-raw)
+    lines-short-over _ _ same.0 same.1 (sym c.has_room.ensures ∙ c.if-not-has_room.true)
 
 pub returns : goal.returns
 returns c =
     none-lines-over c.args.block.now (passed_lines c.build_all.ensures c.in_default.is).0
     (passed_lines c.build_all-2.ensures c.in_default-build_all.is).0
     (passed_lines c.build_all-3.ensures c.in_default-build_all-2.is).0 _ (same-grid (goal.at.returns c).In_default-build_all-2).0
-    (same-grid (goal.at.returns c).In_default-build_all-2).1 (sym c.has_room.ensures ∙ not-false _ c.if-not-has_room.false-raw)
+    (same-grid (goal.at.returns c).In_default-build_all-2).1 (sym c.has_room.ensures ∙ c.if-not-has_room.false)

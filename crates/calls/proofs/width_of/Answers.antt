@@ -6,8 +6,8 @@ use lib.Count.{leading_le}
 use Rattle.calls.proofs.Bits.{width_small, width_zeros}
 use Rattle.calls.proofs.width_of.Goals as goal
 
-pub returns-then-count-le1 : goal.returns-then-count-le1
-returns-then-count-le1 c = width_small _ (omega arith)
+pub returns-then-count-single : goal.returns-then-count-single
+returns-then-count-single c = width_small _ (omega arith)
 
 pub overflow_sub-result-2 : goal.overflow_sub-result-2
 overflow_sub-result-2 c = omega (arith, leading_le 64 (c.args.count - 1))

@@ -28,12 +28,12 @@ unused-zero c =
 
 pub returns-then-not-is_paired : goal.returns-then-not-is_paired
 returns-then-not-is_paired c =
-    c.all_zero.ensures ∙ ap zeros (rest c.args.block.now 3 (omega arith)) ∙ sym (unused-zero (goal.at.returns-then-not-is_paired c).After-is_paired ∙ simp (not-true c.is_paired.result c.if-not-is_paired.true-raw))
+    c.all_zero.ensures ∙ ap zeros (rest c.args.block.now 3 (omega arith)) ∙ sym (unused-zero (goal.at.returns-then-not-is_paired c).After-is_paired ∙ simp c.if-not-is_paired.true)
 
 pub returns-then-k-ge-STEPS : goal.returns-then-k-ge-STEPS
 returns-then-k-ge-STEPS c =
     let block = c.args.block.now in
-    sym (unused-zero (goal.at.returns-then-k-ge-STEPS c).After-is_paired ∙ simp (not-false c.is_paired.result c.if-not-is_paired.false-raw) (zeros-past block (4 + 2 * k_of block) (omega (arith, c.wide-k.ensures))))
+    sym (unused-zero (goal.at.returns-then-k-ge-STEPS c).After-is_paired ∙ simp c.if-not-is_paired.false (zeros-past block (4 + 2 * k_of block) (omega (arith, c.wide-k.ensures))))
 
 pub returns : goal.returns
 returns c =
@@ -42,4 +42,4 @@ returns c =
     c.all_zero-2.ensures
     ∙ ap zeros (rest block (4 + 2 * wide.result) (omega arith))
     ∙ ap (λ n. zeros (drop (4 + 2 * n) block)) wide.ensures
-    ∙ sym (unused-zero (goal.at.returns c).After-is_paired ∙ simp (not-false c.is_paired.result c.if-not-is_paired.false-raw))
+    ∙ sym (unused-zero (goal.at.returns c).After-is_paired ∙ simp c.if-not-is_paired.false)

@@ -20,10 +20,10 @@ next c =
     (ap (in_range (get_or block (4 + 2 * c.loop-i.i) 0)) (sym c.raise-b.ensures) ∙ sym c.in_range.ensures)
 
 pub returns-then-not-in_range : goal.returns-then-not-in_range
-returns-then-not-in_range c = sym (next (goal.at.returns-then-not-in_range c).After-in_range ∙ simp (not-true c.in_range.result c.if-not-in_range.true-raw))
+returns-then-not-in_range c = sym (next (goal.at.returns-then-not-in_range c).After-in_range ∙ simp c.if-not-in_range.true)
 
 pub loop-i-preserved : goal.loop-i-preserved
-loop-i-preserved c = (search rules, next (goal.at.loop-i-preserved c).After-in_range ∙ simp (not-false c.in_range.result c.if-not-in_range.false-raw))
+loop-i-preserved c = (search rules, next (goal.at.loop-i-preserved c).After-in_range ∙ simp c.if-not-in_range.false)
 
 pub returns : goal.returns
 returns c = sym (c.loop-i.invariant.1 ∙ small-end _ _ c.requires c.loop-i.i (omega arith))

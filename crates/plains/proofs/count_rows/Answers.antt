@@ -17,7 +17,7 @@ pub returns-then-not-next_row : goal.returns-then-not-next_row
 returns-then-not-next_row c =
     let args = c.args in
     over-says args.diagonal args.n args.m
-    (over-later args.diagonal args.n args.m c.loop-j.j c.loop-j-test.true (c.next_row.ensures.over _ c.loop-j.invariant.2 (not-true _ c.if-not-next_row.true-raw)))
+    (over-later args.diagonal args.n args.m c.loop-j.j c.loop-j-test.true (c.next_row.ensures.over _ c.loop-j.invariant.2 c.if-not-next_row.true))
 
 pub overflow_add-j : goal.overflow_add-j
 overflow_add-j c =
@@ -29,7 +29,7 @@ loop-j-smaller c =
 
 pub loop-j-preserved : goal.loop-j-preserved
 loop-j-preserved c =
-    (one_on _ _ c.loop-j-test.true, c.next_row.ensures.long ∙ c.loop-j.invariant.1, c.next_row.ensures.row _ c.loop-j.invariant.2 (not-false _ c.if-not-next_row.false-raw), c.next_row.ensures.fits _ c.loop-j.invariant.2 (not-false _ c.if-not-next_row.false-raw))
+    (one_on _ _ c.loop-j-test.true, c.next_row.ensures.long ∙ c.loop-j.invariant.1, c.next_row.ensures.row _ c.loop-j.invariant.2 c.if-not-next_row.false, c.next_row.ensures.fits _ c.loop-j.invariant.2 c.if-not-next_row.false)
 
 pub offset_bounds-row-n : goal.offset_bounds-row-n
 offset_bounds-row-n c =

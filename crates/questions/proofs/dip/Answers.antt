@@ -9,7 +9,7 @@ use Rattle.job.specs.Replies.Reply.{value}
 use Rattle.job.proofs.Standing.{Kept, kept_of, told_of_lem}
 use Rattle.questions.proofs.Dipping.{dip-told, dip-over, dip_kind, dip-stops, dip-none, dip-digits, dip-value}
 use Rattle.questions.proofs.dip.Goals as goal
-use Rattle.questions.proofs.dip.Goals.{Else-not-is_paired, Else-refusal-ne0, In_default}
+use Rattle.questions.proofs.dip.Goals.{Else-without_steps, Else-refusal-ne0, In_default}
 
 pub returns-then-refusal-ne0 : goal.returns-then-refusal-ne0
 returns-then-refusal-ne0 c =
@@ -26,22 +26,22 @@ kept c = kept_of _ c.of-made.result (λ i. (c.type_inv.block i).fits) c.of-made.
 fits : (c : In_default) → value c.in_default.field-0 ≡ reply (count_answer c.args.block.now)
 fits c = sym (ap count_says c.in_default.is) ∙ c.count.ensures
 
-has-pairs : (c : Else-not-is_paired) → paired c.of-made.result.job.family ≡ true
-has-pairs c = sym c.is_paired.ensures ∙ not-false _ c.if-not-is_paired.false-raw
+has-pairs : (c : Else-without_steps) → paired c.of-made.result.job.family ≡ true
+has-pairs c = sym c.is_paired-without_steps.ensures ∙ c.if-without_steps.false
 
-pub returns-then-not-is_paired : goal.returns-then-not-is_paired
-returns-then-not-is_paired c = dip_kind _ _ (kept (goal.at.returns-then-not-is_paired c).Else-refusal-ne0) (fits (goal.at.returns-then-not-is_paired c).In_default) (sym c.is_paired.ensures ∙ not-true _ c.if-not-is_paired.true-raw)
+pub returns-then-without_steps : goal.returns-then-without_steps
+returns-then-without_steps c = dip_kind _ _ (kept (goal.at.returns-then-without_steps c).Else-refusal-ne0) (fits (goal.at.returns-then-without_steps c).In_default) (sym c.is_paired-without_steps.ensures ∙ c.if-without_steps.true)
 
 pub first_rise-requires : goal.first_rise-requires
-first_rise-requires c = dip-digits _ _ (kept (goal.at.first_rise-requires c).Else-refusal-ne0) (fits (goal.at.first_rise-requires c).In_default) (has-pairs (goal.at.first_rise-requires c).Else-not-is_paired) c.walk.result c.walk.ensures c.in-Edge.is
+first_rise-requires c = dip-digits _ _ (kept (goal.at.first_rise-requires c).Else-refusal-ne0) (fits (goal.at.first_rise-requires c).In_default) (has-pairs (goal.at.first_rise-requires c).Else-without_steps) c.walk.result c.walk.ensures c.in-Edge.is
 
 pub returns-in-Edge : goal.returns-in-Edge
 returns-in-Edge c =
-    dip-value _ _ (kept (goal.at.returns-in-Edge c).Else-refusal-ne0) (fits (goal.at.returns-in-Edge c).In_default) (has-pairs (goal.at.returns-in-Edge c).Else-not-is_paired) c.walk.result c.walk.ensures c.in-Edge.is
+    dip-value _ _ (kept (goal.at.returns-in-Edge c).Else-refusal-ne0) (fits (goal.at.returns-in-Edge c).In_default) (has-pairs (goal.at.returns-in-Edge c).Else-without_steps) c.walk.result c.walk.ensures c.in-Edge.is
     c.first_rise.result c.first_rise.ensures
 
 pub returns-in-Stops : goal.returns-in-Stops
-returns-in-Stops c = dip-stops _ _ (kept (goal.at.returns-in-Stops c).Else-refusal-ne0) (fits (goal.at.returns-in-Stops c).In_default) (has-pairs (goal.at.returns-in-Stops c).Else-not-is_paired) c.walk.result c.walk.ensures c.in-Stops.is
+returns-in-Stops c = dip-stops _ _ (kept (goal.at.returns-in-Stops c).Else-refusal-ne0) (fits (goal.at.returns-in-Stops c).In_default) (has-pairs (goal.at.returns-in-Stops c).Else-without_steps) c.walk.result c.walk.ensures c.in-Stops.is
 
 pub returns-in-NoJob : goal.returns-in-NoJob
-returns-in-NoJob c = absurd (dip-none _ _ (kept (goal.at.returns-in-NoJob c).Else-refusal-ne0) (fits (goal.at.returns-in-NoJob c).In_default) (has-pairs (goal.at.returns-in-NoJob c).Else-not-is_paired) c.walk.result c.walk.ensures c.in-NoJob.is)
+returns-in-NoJob c = absurd (dip-none _ _ (kept (goal.at.returns-in-NoJob c).Else-refusal-ne0) (fits (goal.at.returns-in-NoJob c).In_default) (has-pairs (goal.at.returns-in-NoJob c).Else-without_steps) c.walk.result c.walk.ensures c.in-NoJob.is)

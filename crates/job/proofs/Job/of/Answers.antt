@@ -7,20 +7,20 @@ use Rattle.job.proofs.Job.of.Goals as goal
 use Rattle.job.proofs.Job.of.Goals.{Else-not-is_formed, Else-not-is_sized}
 
 pub returns-then-not-is_formed : goal.returns-then-not-is_formed
-returns-then-not-is_formed c = c.refused.ensures ∙ made-form _ (sym c.is_formed.ensures ∙ not-true _ c.if-not-is_formed.true-raw)
+returns-then-not-is_formed c = c.refused.ensures ∙ made-form _ (sym c.is_formed.ensures ∙ c.if-not-is_formed.true)
 
 -- the block passes form, and then size
 has-form : (c : Else-not-is_formed) → formed c.args.block.now ≡ true
-has-form c = sym c.is_formed.ensures ∙ not-false _ c.if-not-is_formed.false-raw
+has-form c = sym c.is_formed.ensures ∙ c.if-not-is_formed.false
 
 has-size : (c : Else-not-is_sized) → sized c.args.block.now ≡ true
-has-size c = sym c.is_sized.ensures ∙ not-false _ c.if-not-is_sized.false-raw
+has-size c = sym c.is_sized.ensures ∙ c.if-not-is_sized.false
 
 pub is_sized-requires : goal.is_sized-requires
 is_sized-requires c = whole_of _ (has-form (goal.at.is_sized-requires c).Else-not-is_formed)
 
 pub returns-then-not-is_sized : goal.returns-then-not-is_sized
-returns-then-not-is_sized c = c.refused-then-not-is_sized.ensures ∙ made-size _ (has-form (goal.at.returns-then-not-is_sized c).Else-not-is_formed) (sym c.is_sized.ensures ∙ not-true _ c.if-not-is_sized.true-raw)
+returns-then-not-is_sized c = c.refused-then-not-is_sized.ensures ∙ made-size _ (has-form (goal.at.returns-then-not-is_sized c).Else-not-is_formed) (sym c.is_sized.ensures ∙ c.if-not-is_sized.true)
 
 pub bounds-block-0 : goal.bounds-block-0
 bounds-block-0 c = let h = whole_of _ (has-form (goal.at.bounds-block-0 c).Else-not-is_formed) in omega arith
@@ -31,7 +31,7 @@ accepted-requires c = whole_of _ (has-form (goal.at.accepted-requires c).Else-no
 pub returns-then-not-is_paired : goal.returns-then-not-is_paired
 returns-then-not-is_paired c =
     let f = has-form (goal.at.returns-then-not-is_paired c).Else-not-is_formed in
-    c.accepted.ensures ∙ made-job _ f (has-size (goal.at.returns-then-not-is_paired c).Else-not-is_sized) (no_twins _ f (sym c.is_paired.ensures ∙ not-true _ c.if-not-is_paired.true-raw))
+    c.accepted.ensures ∙ made-job _ f (has-size (goal.at.returns-then-not-is_paired c).Else-not-is_sized) (no_twins _ f (sym c.is_paired.ensures ∙ c.if-not-is_paired.true))
 
 pub bounds-block-3 : goal.bounds-block-3
 bounds-block-3 c = let h = whole_of _ (has-form (goal.at.bounds-block-3 c).Else-not-is_formed) in omega arith

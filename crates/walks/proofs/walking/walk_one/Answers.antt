@@ -63,13 +63,13 @@ pub returns-then-not-is_within : goal.returns-then-not-is_within
 returns-then-not-is_within c =
     out c.loop-i.invariant c.loop-i-test.true c.letter_of-l.ensures c.if-p-l.false
     (omega (arith, c.wide-right.ensures)) (omega (arith, c.wide-right.ensures, c.wide.ensures)) c.if-p-x.false
-    c.is_within.ensures (not-true _ c.if-not-is_within.true-raw)
+    c.is_within.ensures c.if-not-is_within.true
 
 pub loop-i-preserved : goal.loop-i-preserved
 loop-i-preserved c =
     stepping_more c.loop-i.invariant c.loop-i-test.true c.letter_of-l.ensures c.if-p-l.false
     (omega (arith, c.wide-right.ensures)) (omega (arith, c.wide-right.ensures, c.wide.ensures)) c.if-p-x.false
-    c.is_within.ensures (not-false _ c.if-not-is_within.false-raw)
+    c.is_within.ensures c.if-not-is_within.false
 
 pub returns-then-x-p : goal.returns-then-x-p
 returns-then-x-p c =
