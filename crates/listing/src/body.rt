@@ -24,12 +24,18 @@ fn shown_of(count: u64) -> usize
     LINES
 }
 
+fn wide(i: usize) -> u64
+    ensures { result ≡ i }
+{
+    i as u64
+}
+
 fn count_up(numbers: &mut [u64])
     ensures { Counting numbers.new }
 {
     let mut i = 0;
     while i < numbers.len() {
-        numbers[i] = i as u64;
+        numbers[i] = wide(i);
         i += 1;
     }
 }
@@ -44,7 +50,7 @@ fn lines_of(steps: &[u8], ends: &[usize], many: usize, text: &mut [u8], at: usiz
     let mut i = 0;
     while i < many {
         let end = ends[i];
-        place = pieces::line(i as u64, &steps[start..end], text, place);
+        place = pieces::line(wide(i), &steps[start..end], text, place);
         start = end;
         i += 1;
     }

@@ -6,13 +6,16 @@ ghost use Rattle.listing.specs.Texts.{Appended, Headed};
 
 use job::Job;
 
-fn append(piece: &[u8], text: &mut [u8], at: usize) -> usize
-    requires { at + length piece.now ≤ length text.old }
-    ensures { Appended text.old at piece.now result text.new }
+fn append(bytes: &[u8], text: &mut [u8], at: usize) -> usize
+    requires { at + length bytes.now ≤ length text.old }
+    ensures { Appended text.old at bytes.now result text.new }
 {
-    let end = at + piece.len();
-    text[at..end].copy_from_slice(piece);
-    end
+    let mut i = 0;
+    while i < bytes.len() {
+        text[at + i] = bytes[i];
+        i += 1;
+    }
+    at + i
 }
 
 fn decimal(n: u64, text: &mut [u8], at: usize) -> usize
@@ -33,11 +36,17 @@ fn field(word: &[u8], n: u64, text: &mut [u8], at: usize) -> usize
     decimal(n, text, next)
 }
 
+fn wide(x: u8) -> u64
+    ensures { result ≡ x }
+{
+    x as u64
+}
+
 fn byte_field(word: &[u8], x: u8, text: &mut [u8], at: usize) -> usize
     requires { at + length word.now + 20 ≤ length text.old }
     ensures { Appended text.old at (Listing·field word.now x) result text.new }
 {
-    field(word, x as u64, text, at)
+    field(word, wide(x), text, at)
 }
 
 // A byte in two's complement: 128 and above stand for numbers below 0.
@@ -46,9 +55,9 @@ fn signed_byte(x: u8, text: &mut [u8], at: usize) -> usize
     ensures { Appended text.old at (signed_text (signed x)) result text.new }
 {
     if x < Job::LEVEL {
-        return decimal(x as u64, text, at);
+        return decimal(wide(x), text, at);
     }
-    field(b"-", 256 - x as u64, text, at)
+    field(b"-", 256 - wide(x), text, at)
 }
 
 pub(crate) fn header(block: &[u8], count: u64, text: &mut [u8]) -> usize

@@ -2,7 +2,6 @@
 use native.Mathlib.Omega.{arith}
 use Rattle.listing.proofs.Lengths.{header_long}
 use Rattle.listing.proofs.Telling.{block-long, listing_is}
-use borrow.Author.Rules.{rules}
 use Rattle.listing.proofs.listing.Goals as goal
 
 pub header-at-requires : goal.header-at-requires

@@ -2,7 +2,6 @@
 use mathlib.Core.Path.{sym}
 use lib.Seq.{length-take-le}
 use Rattle.listing.proofs.Putting.{put_as}
-use borrow.Author.Rules.{rules}
 use Rattle.listing.proofs.write.Goals as goal
 
 pub slice_bounds-put-end : goal.slice_bounds-put-end

@@ -1,10 +1,7 @@
 -- `body::count_up` meets its contract: after i turns the first i numbers are there. Assumes nothing.
-use mathlib.Core.Path.{◌≡◌, refl, ◌∙◌}
+use mathlib.Core.Path.{◌≡◌}
 use Prim.Native.Nat.{ℕ, ◌-◌, ◌≤◌, ◌<◌}
-use native.Mathlib.Omega.{arith}
-use lib.ListN.{length, get_or, length-set}
-use Rattle.listing.proofs.Cutting.{counting_next}
-use borrow.Author.Rules.{rules}
+use lib.ListN.{length, get_or}
 use Rattle.listing.proofs.body.count_up.Given as goal
 
 abbrev pub invariant-loop-i : goal.invariant-loop-i

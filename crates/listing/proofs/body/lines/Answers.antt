@@ -5,7 +5,6 @@ use native.Mathlib.Nat.{min-le_right}
 use native.Mathlib.Omega.{arith}
 use lib.ListN.{replicate, length-replicate}
 use lib.Seq.{length-take-le}
-use borrow.Author.Rules.{rules}
 use Rattle.listing.proofs.Telling.{Listed, listed}
 use Rattle.listing.proofs.body.lines.Goals as goal
 use Rattle.listing.proofs.body.lines.Goals.{After-built}
@@ -17,7 +16,7 @@ slice_bounds-build_all-end c =
 -- the edges of the numbers from 0 up are lined up
 here : (c : After-built) →
     let last = c.build_all.new in
-    Listed c.args.block.now c.shown_of-many.result c.built.result last.1.1.0 last.1.1.1.0
+    Listed c.args.block.now c.shown_of-many.result c.built.result last.steps last.ends
 here c =
     listed _ _ c.requires.counted _ c.count_up.ensures (omega arith) _ c.shown_of-many.ensures
     (replicate 128000 0) (replicate 1000 0) (length-replicate {A = ℕ} 128000 0) (length-replicate {A = ℕ} 1000 0) _ _ _ _ c.built.ensures c.build_all.ensures

@@ -1,8 +1,8 @@
 -- `body::lines_of` meets its contract: after i turns i lines are printed. Assumes nothing.
-use Prim.Native.Nat.{◌-◌, ◌≤◌}
+use Prim.Native.Nat.{◌≤◌}
 use native.Mathlib.Omega.{arith}
 use lib.ListN.{length, get_or}
-use Rattle.listing.proofs.Printing.{Printed, printed-none, printed-part, printed-room, printed-next, printed-all}
+use Rattle.listing.proofs.Printing.{printed-none, printed-part, printed-room, printed-next, printed-all}
 use borrow.Author.Rules.{rules}
 use Rattle.listing.proofs.body.lines_of.Goals as goal
 use Rattle.listing.proofs.body.lines_of.Goals.{In-loop-i}
@@ -34,16 +34,11 @@ line-place-requires c =
     printed-room _ _ _ _ _ c.requires _ _ _ _ c.loop-i.invariant.1 c.loop-i-test.true
 
 pub loop-i-preserved : goal.loop-i-preserved
-loop-i-preserved c =
-    (
-      search rules,
-      printed-next _ _ _ _ _ c.requires _ _ _ _ c.loop-i.invariant.1 c.loop-i-test.true _ _
-          c.line-place.ensures,
-    )
+loop-i-preserved c = (
+  search rules,
+  printed-next _ _ _ _ _ c.requires _ _ _ _ c.loop-i.invariant.1 c.loop-i-test.true _ _
+      (rw c.wide.ensures at c.line-place.ensures),
+)
 
 pub returns : goal.returns
 returns c = printed-all _ _ _ _ _ _ _ _ _ (omega (arith, c.loop-i-test.false)) c.loop-i.invariant.1
-
--- TODO
--- | same_length : tie.Need-same-length invariant-loop decreases-loop
--- | same_length c = c.before.loop.invariant.1.appended.as_long

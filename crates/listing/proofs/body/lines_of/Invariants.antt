@@ -1,9 +1,6 @@
 -- `body::lines_of` meets its contract: after i turns i lines are printed. Assumes nothing.
 use Prim.Native.Nat.{◌-◌, ◌≤◌}
-use native.Mathlib.Omega.{arith}
-use lib.ListN.{length, get_or}
-use Rattle.listing.proofs.Printing.{Printed, printed-none, printed-part, printed-room, printed-next, printed-all}
-use borrow.Author.Rules.{rules}
+use Rattle.listing.proofs.Printing.{Printed}
 use Rattle.listing.proofs.body.lines_of.Given as goal
 
 abbrev pub invariant-loop-i : goal.invariant-loop-i

@@ -1,6 +1,5 @@
 -- `pieces::field` meets its contract: a word and a number, one after the other. Assumes nothing.
 use Rattle.listing.proofs.Appending.{appended_then}
-use borrow.Author.Rules.{rules}
 use Rattle.listing.proofs.pieces.field.Goals as goal
 
 pub returns : goal.returns

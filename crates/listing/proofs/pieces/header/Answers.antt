@@ -6,24 +6,23 @@ use Rattle.rules.specs.Blocks.{family_of, n_of, m_of}
 use Rattle.listing.proofs.Decimals.{decimal-long}
 use Rattle.listing.proofs.Lengths.{signed-long}
 use Rattle.listing.proofs.Printing.{header_of}
-use borrow.Author.Rules.{rules}
 use Rattle.listing.proofs.pieces.header.Goals as goal
 use Rattle.listing.proofs.pieces.header.Goals.{After-append-space, After-byte_field-family, After-byte_field-n, After-field-counted, After-signed_byte-m}
 
 -- each piece leaves room for those behind it
-family-room : (c : After-byte_field-family) → c.byte_field-family.result + 173 ≤ length c.byte_field-family.new.1.1.0
+family-room : (c : After-byte_field-family) → c.byte_field-family.result + 173 ≤ length c.byte_field-family.new.text
 family-room c = omega (arith, c.requires.room, c.byte_field-family.ensures.place, decimal-long (family_of c.args.block.now), c.byte_field-family.ensures.as_long)
 
-end-room : (c : After-byte_field-n) → c.byte_field-n.result + 148 ≤ length c.byte_field-n.new.1.1.0
+end-room : (c : After-byte_field-n) → c.byte_field-n.result + 148 ≤ length c.byte_field-n.new.text
 end-room c = omega (arith, family-room (goal.at.After-byte_field-n c).After-byte_field-family, c.byte_field-n.ensures.place, decimal-long (n_of c.args.block.now), c.byte_field-n.ensures.as_long)
 
-space-room : (c : After-append-space) → c.append-space.result + 147 ≤ length c.append-space.new.1.0
+space-room : (c : After-append-space) → c.append-space.result + 147 ≤ length c.append-space.new.text
 space-room c = omega (arith, end-room (goal.at.After-append-space c).After-byte_field-n, c.append-space.ensures.place, c.append-space.ensures.as_long)
 
-m-room : (c : After-signed_byte-m) → c.signed_byte-m.result + 126 ≤ length c.signed_byte-m.new.1.0
+m-room : (c : After-signed_byte-m) → c.signed_byte-m.result + 126 ≤ length c.signed_byte-m.new.text
 m-room c = omega (arith, space-room (goal.at.After-signed_byte-m c).After-append-space, c.signed_byte-m.ensures.place, signed-long (m_of c.args.block.now), c.signed_byte-m.ensures.as_long)
 
-count_room : (c : After-field-counted) → c.field-counted.result + 99 ≤ length c.field-counted.new.1.1.0
+count_room : (c : After-field-counted) → c.field-counted.result + 99 ≤ length c.field-counted.new.text
 count_room c = omega (arith, m-room (goal.at.After-field-counted c).After-signed_byte-m, c.field-counted.ensures.place, decimal-long c.args.count, c.field-counted.ensures.as_long)
 
 pub byte_field-n-requires : goal.byte_field-n-requires

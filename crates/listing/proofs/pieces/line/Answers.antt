@@ -5,18 +5,17 @@ use lib.ListN.{length}
 use Rattle.listing.proofs.Decimals.{decimal-long}
 use Rattle.listing.proofs.Lengths.{shown-long}
 use Rattle.listing.proofs.Printing.{line_of}
-use borrow.Author.Rules.{rules}
 use Rattle.listing.proofs.pieces.line.Goals as goal
 use Rattle.listing.proofs.pieces.line.Goals.{After-append-space, After-decimal-numbered, After-edge_or_dash-shown}
 
 -- each piece leaves room for those behind it
-number-room : (c : After-decimal-numbered) → c.decimal-numbered.result + 3 + length c.args.edge.now ≤ length c.decimal-numbered.new.1.0
+number-room : (c : After-decimal-numbered) → c.decimal-numbered.result + 3 + length c.args.edge.now ≤ length c.decimal-numbered.new.text
 number-room c = omega (arith, c.requires, c.decimal-numbered.ensures.place, decimal-long c.args.number, c.decimal-numbered.ensures.as_long)
 
-space-room : (c : After-append-space) → c.append-space.result + 2 + length c.args.edge.now ≤ length c.append-space.new.1.0
+space-room : (c : After-append-space) → c.append-space.result + 2 + length c.args.edge.now ≤ length c.append-space.new.text
 space-room c = omega (arith, number-room (goal.at.After-append-space c).After-decimal-numbered, c.append-space.ensures.place, c.append-space.ensures.as_long)
 
-edge-room : (c : After-edge_or_dash-shown) → c.edge_or_dash-shown.result + 1 ≤ length c.edge_or_dash-shown.new.1.0
+edge-room : (c : After-edge_or_dash-shown) → c.edge_or_dash-shown.result + 1 ≤ length c.edge_or_dash-shown.new.text
 edge-room c = omega (arith, space-room (goal.at.After-edge_or_dash-shown c).After-append-space, c.edge_or_dash-shown.ensures.place, shown-long c.args.edge.now, c.edge_or_dash-shown.ensures.as_long)
 
 pub append-space-requires : goal.append-space-requires

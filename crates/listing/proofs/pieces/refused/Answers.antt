@@ -2,7 +2,6 @@
 use native.Mathlib.Omega.{arith}
 use Rattle.listing.proofs.Decimals.{decimal-long}
 use Rattle.listing.proofs.Printing.{refused-of}
-use borrow.Author.Rules.{rules}
 use Rattle.listing.proofs.pieces.refused.Goals as goal
 
 pub append-requires : goal.append-requires
