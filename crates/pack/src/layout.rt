@@ -6,11 +6,18 @@ ghost use Rattle.job.specs.Parts.{PartOf};
 
 use super::Pack;
 
+// A byte as a number.
+fn wide(b: u8) -> usize
+    ensures { (result ≡ b) × (result < 256) }
+{
+    b as usize
+}
+
 // "Little-endian": a number by its low and its high byte.
 fn little(low: u8, high: u8) -> usize
     ensures { (result ≡ low + 256 * high) × (result < 65536) }
 {
-    low as usize + 256 * (high as usize)
+    wide(low) + 256 * wide(high)
 }
 
 // The number of the two bytes at k.

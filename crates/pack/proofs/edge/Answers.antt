@@ -1,7 +1,6 @@
 -- `pack::edge` meets its contract, from that of `part`: a part that is answered lies in the pack. Assumes nothing.
 use mathlib.Core.Path.{◌≡◌, refl, sym, ap, ◌∙◌}
 use native.Mathlib.Omega.{arith}
-use borrow.Author.Rules.{rules}
 use Rattle.rules.specs.Questions.{Part, part_answer}
 use Rattle.job.specs.Replies.{reply}
 use Rattle.job.specs.Replies.Reply.{value}
@@ -13,11 +12,11 @@ use Rattle.pack.proofs.edge.Goals as goal
 use Rattle.pack.proofs.edge.Goals.{In-Part}
 
 -- the part that `part` answers
-abbrev found : tie.After-known-told → Part
-found c = record { start = c.before.start.given.0.0; end = c.before.start.given.0.1.0 }
+abbrev found : In-Part → Part
+found c = record { start = c.in-Part.start; end = c.in-Part.end }
 
 says : (c : In-Part) → value (found c) ≡ reply (part_answer c.args.pack.now c.args.i)
-says c = sym (ap part_says c.in-Part-2.is) ∙ c.part.ensures
+says c = sym (ap part_says c.in-Part.is) ∙ c.part.ensures
 
 inside : (c : In-Part) → Inside c.args.pack.now (found c)
 inside c = part-inside c.args.pack.now c.args.i (found c) (says c)

@@ -2,7 +2,6 @@
 use mathlib.Core.Path.{sym, ap, ◌∙◌}
 use Prim.Native.Nat.{◌<◌}
 use native.Mathlib.Omega.{arith}
-use borrow.Author.Rules.{rules}
 use Rattle.rules.specs.Packs.{count_in}
 use Rattle.job.specs.Replies.{reply}
 use Rattle.pack.specs.Layout.{EdgeAt}

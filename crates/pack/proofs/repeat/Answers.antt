@@ -2,7 +2,6 @@
 use mathlib.Core.Path.{sym, ap, ◌∙◌}
 use Rattle.job.specs.Replies.{reply}
 use Rattle.pack.proofs.Reading.{read_of, repeat-refused, repeat-at}
-use borrow.Author.Rules.{rules}
 use Rattle.pack.proofs.repeat.Goals as goal
 
 pub first_repeat-requires : goal.first_repeat-requires

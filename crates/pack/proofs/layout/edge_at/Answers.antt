@@ -1,6 +1,5 @@
 -- `layout::edge_at` meets its contract: the part between two offsets. Assumes nothing.
 use mathlib.Core.Path.{refl}
-use borrow.Author.Rules.{rules}
 use Rattle.pack.proofs.layout.edge_at.Goals as goal
 
 pub returns : goal.returns

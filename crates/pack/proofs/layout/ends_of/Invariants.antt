@@ -1,8 +1,6 @@
 -- `layout::ends_of` meets its contract: an offset more at each turn. Assumes nothing.
 use Prim.Native.Nat.{◌-◌}
-use native.Mathlib.Omega.{arith}
-use borrow.Author.Rules.{rules}
-use Rattle.pack.proofs.Listed.{Ending, ending-start, ending-more, ending-all}
+use Rattle.pack.proofs.Listed.{Ending}
 use Rattle.pack.proofs.layout.ends_of.Given as goal
 
 abbrev pub invariant-loop-i : goal.invariant-loop-i

@@ -4,10 +4,9 @@ use mathlib.Core.Bool.{◌&&◌}
 use Prim.Native.Nat.{◌+◌, ◌*◌}
 use lib.Dec.{leb, eqb}
 use lib.ListN.{length}
-use borrow.Author.Tests.{le-leb, lt-leb, eq-eqb, ne_eqb, not-true, not-false}
+use borrow.Author.Tests.{le-leb, lt-leb, eq-eqb, ne_eqb}
 use Rattle.rules.specs.Packs.{shortest, offset, rises, laid}
 use Rattle.pack.proofs.Layouts.{laid-at}
-use borrow.Author.Rules.{rules}
 use Rattle.pack.proofs.layout.is_laid.Goals as goal
 use Rattle.pack.proofs.layout.is_laid.Goals.{After-edge_count-c, Else-pack-first}
 
@@ -18,7 +17,7 @@ pub returns-then-pack-gt-LONGEST : goal.returns-then-pack-gt-LONGEST
 returns-then-pack-gt-LONGEST c = sym (laid-at _ _ refl ∙ simp (le-leb _ _ c.if-pack-lt-SHORTEST.false, lt-leb _ _ c.if-pack-gt-LONGEST.true))
 
 pub returns-then-not-is_marked : goal.returns-then-not-is_marked
-returns-then-not-is_marked c = sym (laid-at _ _ refl ∙ simp (le-leb _ _ c.if-pack-lt-SHORTEST.false, le-leb _ _ c.if-pack-gt-LONGEST.false, sym c.is_marked.ensures ∙ not-true _ c.if-not-is_marked.true-raw))
+returns-then-not-is_marked c = sym (laid-at _ _ refl ∙ simp (le-leb _ _ c.if-pack-lt-SHORTEST.false, le-leb _ _ c.if-pack-gt-LONGEST.false, sym c.is_marked.ensures ∙ c.if-not-is_marked.true))
 
 -- length and mark are right, so what is left is about the table of c offsets
 table : (c : After-edge_count-c) →
@@ -30,7 +29,7 @@ table c =
     laid-at _ _ c.edge_count-c.ensures.0 ∙ simp (
       le-leb _ _ c.if-pack-lt-SHORTEST.false,
       le-leb _ _ c.if-pack-gt-LONGEST.false,
-      sym c.is_marked.ensures ∙ not-false _ c.if-not-is_marked.false-raw,
+      sym c.is_marked.ensures ∙ c.if-not-is_marked.false,
     )
 
 pub returns-then-c-gt-MOST : goal.returns-then-c-gt-MOST
@@ -53,13 +52,13 @@ pub returns-then-not-is_rising : goal.returns-then-not-is_rising
 returns-then-not-is_rising c =
     sym (offsets (goal.at.returns-then-not-is_rising c).Else-pack-first ∙ simp (
       eq-eqb _ _ (sym c.offset_at.ensures ∙ c.if-offset_at-first.false),
-      sym c.is_rising.ensures ∙ not-true _ c.if-not-is_rising.true-raw,
+      sym c.is_rising.ensures ∙ c.if-not-is_rising.true,
     ))
 
 pub returns : goal.returns
 returns c =
     sym (offsets (goal.at.returns c).Else-pack-first ∙ simp (
       eq-eqb _ _ (sym c.offset_at.ensures ∙ c.if-offset_at-first.false),
-      sym c.is_rising.ensures ∙ not-false _ c.if-not-is_rising.false-raw,
+      sym c.is_rising.ensures ∙ c.if-not-is_rising.false,
       sym c.offset_at-2.ensures,
     ))

@@ -1,11 +1,8 @@
 -- `layout::is_rising` meets its contract: the offsets passed never fall. Assumes nothing.
 use Prim.Native.Nat.{◌≤◌, ◌-◌}
-use mathlib.Core.Path.{◌≡◌, refl, sym, ap, ◌∙◌}
+use mathlib.Core.Path.{◌≡◌}
 use mathlib.Core.Bool.{true}
-use native.Mathlib.Omega.{arith}
-use borrow.Author.Rules.{rules}
 use Rattle.rules.specs.Packs.{rises}
-use Rattle.pack.proofs.Layouts.{rises-more, rises_not}
 use Rattle.pack.proofs.layout.is_rising.Given as goal
 
 abbrev pub invariant-loop-i : goal.invariant-loop-i

@@ -1,7 +1,6 @@
 -- `layout::offset_at` meets its contract. Assumes nothing.
 use mathlib.Core.Path.{◌∙◌}
 use Rattle.pack.proofs.Layouts.{offset-is}
-use borrow.Author.Rules.{rules}
 use Rattle.pack.proofs.layout.offset_at.Goals as goal
 
 pub returns : goal.returns

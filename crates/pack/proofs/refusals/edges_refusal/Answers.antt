@@ -3,7 +3,6 @@ use mathlib.Core.Path.{◌≡◌, sym}
 use native.Mathlib.Omega.{arith}
 use lib.ListN.{take}
 use lib.Seq.{length-take-le}
-use borrow.Author.Rules.{rules}
 use Rattle.lines.specs.Lines.{cut_from}
 use Rattle.pack.specs.Layout.{edges_in}
 use Rattle.pack.proofs.Listed.{cut-edges, edges-fine, edges-wrong, edges_none}

@@ -2,8 +2,6 @@
 use mathlib.Core.Path.{◌≡◌, sym, ap, ◌∙◌}
 use mathlib.Core.Bool.{true}
 use native.Mathlib.Omega.{arith}
-use borrow.Author.Rules.{rules}
-use borrow.Author.Tests.{not-true, not-false}
 use Rattle.rules.specs.Packs.{block_in, laid}
 use Rattle.job.specs.Replies.{count_says}
 use Rattle.calls.proofs.Fitting.{known_of}
@@ -14,11 +12,11 @@ use Rattle.pack.proofs.refusals.refusal_of.Goals.{Else-not-is_laid}
 
 pub returns-then-not-is_laid : goal.returns-then-not-is_laid
 returns-then-not-is_laid c =
-    read-bad c.args.pack.now (sym c.is_laid.ensures ∙ not-true _ c.if-not-is_laid.true-raw)
+    read-bad c.args.pack.now (sym c.is_laid.ensures ∙ c.if-not-is_laid.true)
 
 -- the layout is kept
 is-laid : (c : Else-not-is_laid) → laid c.args.pack.now ≡ true
-is-laid c = sym c.is_laid.ensures ∙ not-false _ c.if-not-is_laid.false-raw
+is-laid c = sym c.is_laid.ensures ∙ c.if-not-is_laid.false
 
 pub slice_bounds-block-end : goal.slice_bounds-block-end
 slice_bounds-block-end c = let h = laid_of _ (is-laid (goal.at.slice_bounds-block-end c).Else-not-is_laid) in omega (arith, h.least)
@@ -28,7 +26,7 @@ edges_refusal-requires c = laid_of _ (is-laid (goal.at.edges_refusal-requires c)
 
 pub returns-in-Refused : goal.returns-in-Refused
 returns-in-Refused c =
-    read_told _ (is-laid (goal.at.returns-in-Refused c).Else-not-is_laid) _ (sym (ap count_says c.in-Refused-2.is) ∙ c.count.ensures)
+    read_told _ (is-laid (goal.at.returns-in-Refused c).Else-not-is_laid) _ (sym (ap count_says c.in-Refused.is) ∙ c.count.ensures)
 
 pub returns-in-Count : goal.returns-in-Count
 returns-in-Count c =

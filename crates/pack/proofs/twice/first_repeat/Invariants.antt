@@ -1,20 +1,10 @@
 -- `twice::first_repeat` meets its contract: no edge passed equals an earlier one, nor the later edge any earlier one passed. Assumes nothing.
-use Prim.Native.Nat.{ℕ, ◌≤◌, ◌<◌, ◌-◌}
-use mathlib.Core.Path.{◌≡◌, refl, sym, ap, ◌∙◌}
-use mathlib.Core.Logic.{⊎_elim}
-use mathlib.Core.List.{List}
-use mathlib.Core.Option.{Option}
-use native.Mathlib.Omega.{arith}
-use borrow.Author.Rules.{rules}
-use lib.ListN.{length}
+use Prim.Native.Nat.{◌≤◌, ◌-◌}
+use mathlib.Core.Path.{◌≡◌}
 use Rattle.howmany.specs.Least.{least}
-use Rattle.rules.specs.Packs.{count_in, edges_from}
-use Rattle.rules.specs.Questions.{equals, Twice, twice_in}
-use Rattle.job.specs.Replies.Reply.{value}
-use Rattle.rules.proofs.PackLaws.{edges-length}
-use Rattle.pack.specs.Layout.{EdgeAt}
-use Rattle.pack.proofs.Listed.{equals-is}
-use Rattle.pack.proofs.Searches.{least_more, repeats, alone, twice_at, twice_none}
+use Rattle.rules.specs.Packs.{edges_from}
+use Rattle.rules.specs.Questions.{equals}
+use Rattle.pack.proofs.Searches.{repeats}
 use Rattle.pack.proofs.twice.first_repeat.Given as goal
 
 abbrev pub invariant-loop-earlier : goal.invariant-loop-earlier

@@ -1,9 +1,6 @@
 -- `whole::copy` meets its contract: after i turns the first i numbers are copied. Assumes nothing.
-use Prim.Native.Nat.{◌-◌}
 use native.Mathlib.Omega.{arith}
-use lib.ListN.{length}
-use borrow.Author.Rules.{rules}
-use Rattle.pack.proofs.Wholes.{Copying, copying_long, copying_none, copying_more, copying_all}
+use Rattle.pack.proofs.Wholes.{copying_long, copying_none, copying_more, copying_all}
 use Rattle.pack.proofs.whole.copy.Goals as goal
 
 pub loop-i-init : goal.loop-i-init
@@ -17,7 +14,3 @@ loop-i-preserved c = copying_more c.loop-i.invariant c.loop-i-test.true
 
 pub returns : goal.returns
 returns c = copying_all c.loop-i.invariant c.loop-i-test.false
-
--- TODO
--- | same_length : tie.Need-same-length invariant-loop decreases-loop
--- | same_length c = copying_long c.before.loop.invariant

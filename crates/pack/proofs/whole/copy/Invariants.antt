@@ -1,9 +1,7 @@
 -- `whole::copy` meets its contract: after i turns the first i numbers are copied. Assumes nothing.
 use Prim.Native.Nat.{◌-◌}
-use native.Mathlib.Omega.{arith}
 use lib.ListN.{length}
-use borrow.Author.Rules.{rules}
-use Rattle.pack.proofs.Wholes.{Copying, copying_long, copying_none, copying_more, copying_all}
+use Rattle.pack.proofs.Wholes.{Copying}
 use Rattle.pack.proofs.whole.copy.Given as goal
 
 abbrev pub invariant-loop-i : goal.invariant-loop-i

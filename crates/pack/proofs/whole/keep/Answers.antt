@@ -1,12 +1,10 @@
 -- `whole::keep` meets its contract: as many entries as what is told says. Assumes nothing.
-use mathlib.Core.Path.{◌≡◌, sym, ap, ◌∙◌}
+use mathlib.Core.Path.{sym, ap, ◌∙◌}
 use mathlib.Core.List.{◌++◌}
 use Prim.Native.Nat.{ℕ, ◌≤◌}
 use native.Mathlib.Omega.{arith}
 use lib.ListN.{length, take, drop}
 use lib.Seq.{length-take-le}
-use borrow.Author.Rules.{rules}
-use Rattle.pack.specs.Whole.{entries_of}
 use Rattle.pack.proofs.Wholes.{entries_fit, kept_as}
 use Rattle.pack.proofs.whole.keep.Goals as goal
 use Rattle.pack.proofs.whole.keep.Goals.{After-entries}
