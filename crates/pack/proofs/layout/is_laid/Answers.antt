@@ -4,6 +4,7 @@ use mathlib.Core.Bool.{◌&&◌}
 use Prim.Native.Nat.{◌+◌, ◌*◌}
 use lib.Dec.{leb, eqb}
 use lib.ListN.{length}
+use native.Mathlib.Omega.{arith}
 use borrow.Author.Tests.{le-leb, lt-leb, eq-eqb, ne_eqb}
 use Rattle.rules.specs.Packs.{shortest, offset, rises, laid}
 use Rattle.pack.proofs.Layouts.{laid-at}
@@ -44,6 +45,9 @@ offsets : (c : Else-pack-first) →
     let n = c.edge_count-c.result in
     laid pack ≡ (eqb (offset pack 0) (shortest + 2 * n) && (rises pack n && eqb (offset pack n) (length pack)))
 offsets c = table (goal.at.Else-pack-first c).After-edge_count-c ∙ simp (le-leb _ _ c.if-c-gt-MOST.false, le-leb _ _ c.if-pack-first.false)
+
+pub is_rising-requires : goal.is_rising-requires
+is_rising-requires c = omega (arith, c.if-pack-first.false)
 
 pub returns-then-offset_at-first : goal.returns-then-offset_at-first
 returns-then-offset_at-first c = sym (offsets (goal.at.returns-then-offset_at-first c).Else-pack-first ∙ simp (ne_eqb _ _ (λ e. c.if-offset_at-first.true (c.offset_at.ensures ∙ e))))
