@@ -5,11 +5,11 @@
 --   word_number     what is read off a refusal number
 use mathlib.Core.Path.{◌≡◌, refl, sym, ap, ◌∙◌}
 use mathlib.Core.List.{List}
-use Prim.Native.Nat.{ℕ, ◌+◌, ◌*◌, ◌≤◌, ◌<◌}
+use Prim.Native.Nat.{ℕ, ◌<◌}
 use native.Mathlib.Omega.{arith}
 use Rattle.rules.specs.Refusals.{refusal_number}
 use Rattle.rules.specs.Whole.{Indexed, Listed, numbers_answer}
-use Rattle.rules.specs.Whole.Indexed.{value, refusal, bad_edge}
+use Rattle.rules.specs.Whole.Indexed.{bad_edge}
 use Rattle.rules.proofs.Wholes.{numbers_index}
 use Rattle.pack.specs.declared.Numbers.{Numbers}
 use Rattle.pack.specs.declared.Numbers.TheVariants.{NotEdge}
