@@ -1,7 +1,6 @@
 -- `asked::is_dotted` goes through the bytes. Assumes nothing.
 use Prim.Native.Nat.{◌-◌, ◌≤◌}
 use lib.ListN.{length}
-use borrow.Author.Rules.{rules}
 use Rattle.examples.proofs.asked.is_dotted.Given as goal
 
 abbrev pub invariant-loop-i : goal.invariant-loop-i
