@@ -16,11 +16,3 @@ returns c =
       c.raise-8.ensures,
       c.raise-9.ensures,
     )
-
--- TODO
--- | read-b : tie.Need-shared-slice-read-raise-5 × tie.Need-shared-slice-read-raise-6 × tie.Need-shared-slice-read-raise-7 ×
--- |     tie.Need-shared-slice-read-raise-8 × tie.Need-shared-slice-read-raise-9 × tie.Need-shared-slice-read-raise-10 ×
--- |     tie.Need-shared-slice-read-raise-11 × tie.Need-shared-slice-read-raise-12
--- | read-b = (λ c. search rules, λ c. search rules, λ c. search rules, λ c. search rules, λ c. search rules, λ c. search rules, λ c. search rules, λ c. search rules)
--- | read : tie.Need-shared-slice-read-t5-2 × tie.Need-shared-slice-read-t35 × tie.Need-shared-slice-read-raise-13 × tie.Need-shared-slice-read-t30
--- | read = (λ c. search rules, λ c. search rules, λ c. search rules, λ c. search rules)
