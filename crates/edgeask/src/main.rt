@@ -68,11 +68,17 @@ fn build(rt: &impl Print, block: &[u8], number: u64) -> io::Result<()> {
     }
 }
 
+fn wide(b: u8) -> u64
+    ensures { result < 256 }
+{
+    b as u64
+}
+
 // A number by its low and its high byte.
 fn little(low: u8, high: u8) -> u64
     ensures { result < 65536 }
 {
-    low as u64 + 256 * (high as u64)
+    wide(low) + 256 * wide(high)
 }
 
 // Eight bytes, the lowest first, as a number; 0 if there aren't as many.

@@ -32,11 +32,3 @@ pub(crate) fn empty_edges() -> [u8; 32] {
         32, 0, 32, 0, 32, 0,
     ]
 }
-
-// A pack without edges, of a job of families 1 to 5 to (n,n).
-pub(crate) fn bare(family: u8, n: u8) -> [u8; 28] {
-    [
-        b'E', b'D', b'G', b'1', family, n, n, 0, 0, 0, 0, 0, 0, 0, 0, 0, 0, 0, 0, 0, 0, 0, 0, 0, 0,
-        0, 28, 0,
-    ]
-}

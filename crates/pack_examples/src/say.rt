@@ -1,6 +1,6 @@
 // Answers as lines of text.
 use job::Built;
-use pack::{Numbers, Parted, Repeats};
+use pack::{Parted, Repeats};
 use questions::{Dips, Which};
 use std::io;
 
@@ -48,33 +48,6 @@ pub(crate) fn repeat(rt: &impl Print, p: &[u8]) -> io::Result<()> {
         Repeats::Refused(r) => refused(rt, r)?,
     }
     text(rt, b"\n")
-}
-
-fn entries(rt: &impl Print, list: &[u64]) -> io::Result<()> {
-    text(rt, b" [")?;
-    let mut i: usize = 0;
-    while i < list.len() {
-        text(rt, b" ")?;
-        print!(rt; "{}", list[i])?;
-        i += 1;
-    }
-    text(rt, b" ]\n")
-}
-
-// What is answered of a pack numbered whole, and the list after it.
-pub(crate) fn numbers(rt: &impl Print, p: &[u8], list: &mut [u64]) -> io::Result<()> {
-    match pack::number_all(p, list) {
-        Numbers::Count(c) => {
-            text(rt, b"numbers ")?;
-            decimal(rt, c)?;
-        }
-        Numbers::NotEdge(i) => {
-            text(rt, b"refused 5 at ")?;
-            decimal(rt, i)?;
-        }
-        Numbers::Refused(r) => refused(rt, r)?,
-    }
-    entries(rt, list)
 }
 
 pub(crate) fn write(

@@ -1,6 +1,6 @@
 -- `say::entries` goes through the list. Assumes nothing.
 use Rattle.std.proofs.Common.{length, ◌-◌, ◌≤◌}
-use Rattle.pack_examples.proofs.say.entries.Given as goal
+use Rattle.whole_examples.proofs.say.entries.Given as goal
 
 abbrev pub invariant-loop-i : goal.invariant-loop-i
 invariant-loop-i g l = l.i ≤ length l.list
