@@ -2,14 +2,15 @@
 --
 --   sees-numbers    the numbers of a pack; index_small: an index that is told fits its bits
 --   word-refusal, word-place, word_index, word-rest    what is read off the result word of an edge that isn't valid: 5, 0, its index, 0
+--   word-value, word-told, word-edge    the result word of a value, of a refusal number, and of an edge that isn't valid
 --   word_number     what is read off a refusal number
 use mathlib.Core.Path.{◌≡◌, refl, sym, ap, ◌∙◌}
 use mathlib.Core.List.{List}
-use Prim.Native.Nat.{ℕ, ◌<◌}
+use Prim.Native.Nat.{ℕ, ◌+◌, ◌*◌, ◌<◌}
 use native.Mathlib.Omega.{arith}
 use Rattle.rules.specs.Refusals.{refusal_number}
 use Rattle.rules.specs.Whole.{Indexed, Listed, numbers_answer}
-use Rattle.rules.specs.Whole.Indexed.{bad_edge}
+use Rattle.rules.specs.Whole.Indexed.{value, refusal, bad_edge}
 use Rattle.rules.proofs.Wholes.{numbers_index}
 use Rattle.pack.specs.declared.Numbers.{Numbers}
 use Rattle.pack.specs.declared.Numbers.TheVariants.{NotEdge}
@@ -23,6 +24,18 @@ sees-numbers y w x before after e h = rw (sym e ∙ h.says) (record { result = r
 
 pub index_small : (p list after : List ℕ) (x : Numbers) (i : ℕ) → ListedAs (numbers_answer p list) x after → x ≡ NotEdge i → i < 200
 index_small p list after x i h e = numbers_index p list i (sym h.says ∙ ap numbers_says e)
+
+pub word-value : (v : ℕ) → result_word (value v) ≡ 0
+unfolding refusal_number
+word-value v = refl
+
+pub word-told : (k : ℕ) → result_word (refusal k) ≡ k
+unfolding refusal_number
+word-told k = refl
+
+pub word-edge : (i : ℕ) → result_word (bad_edge i) ≡ 5 + 65536 * i
+unfolding refusal_number
+word-edge i = refl
 
 module _ (i : ℕ) (l : i < 200) where
   pub word-refusal : refusal_bits (result_word (bad_edge i)) ≡ 5

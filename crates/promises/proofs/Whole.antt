@@ -34,7 +34,7 @@ use Rattle.pack.specs.Meets.{PartMeets, NumberAllMeets}
 use Rattle.pack.specs.declared.Numbers.{Numbers}
 use Rattle.edges.specs.ResultWords.{result_word, shown_in, refusal_bits, place_bits, index_bits, rest_bits}
 use Rattle.edges.specs.Meets.{EdgesPackNumbersMeets}
-use Rattle.edges.proofs.Words.{index_small, word-refusal, word-place, word_index, word-rest, word_number}
+use Rattle.edges.proofs.Words.{index_small, word-value, word-told, word-edge, word-refusal, word-place, word_index, word-rest, word_number}
 use Rattle.promises.specs.Whole.{Alone, InC}
 use Rattle.promises.proofs.One.{numbered-one}
 
@@ -93,18 +93,17 @@ whole_part p i start end h =
 
 pub numbers_in_c : (p list : List ℕ) (x : Numbers) (after : List ℕ) (before r : ℕ) (list-after : List ℕ) (count-after : ℕ) → NumberAllMeets p list x after
     → EdgesPackNumbersMeets p list before r list-after count-after → InC x r before count-after × (list-after ≡ after)
-unfolding refusal_number
 numbers_in_c p list x after before r list-after count-after w h =
     let word : r ≡ result_word (numbers_says x) = h.result ∙ ap result_word (sym w.says) in
     let count : count-after ≡ shown_in (numbers_says x) before = h.count ∙ ap (λ (y : Indexed ℕ). shown_in y before) (sym w.says) in
     (go x w word count, h.entries ∙ sym w.list_is)
   where
     go : (x : Numbers) → NumberAllMeets p list x after → r ≡ result_word (numbers_says x) → count-after ≡ shown_in (numbers_says x) before → InC x r before count-after
-    go (Count c) w q k = (q, k)
+    go (Count c) w q k = (q ∙ word-value c, k)
     go (NotEdge i) w q k =
         let l : i < 200 = index_small p list after (NotEdge i) i w refl in
         (ap refusal_bits q ∙ word-refusal i l, ap place_bits q ∙ word-place i l, ap index_bits q ∙ word_index i l, ap rest_bits q ∙ word-rest i l, k)
-    go (Refused m) w q k = (q, k)
+    go (Refused m) w q k = (q ∙ word-told m, k)
 
 -- the answer of `pack::number_all` that a result word tells
 module _ (p list : List ℕ) (before r : ℕ) (list-after : List ℕ) (after : ℕ) (h : EdgesPackNumbersMeets p list before r list-after after) where
@@ -113,28 +112,24 @@ module _ (p list : List ℕ) (before r : ℕ) (list-after : List ℕ) (after : �
     is_value : (c : ℕ) → (numbers_answer p list).answer ≡ value c → r ≡ 0 → after ≡ c → Cases
     is_edge_lem : (i : ℕ) → (numbers_answer p list).answer ≡ bad_edge i → i < 200 → r ≡ result_word (bad_edge i) → after ≡ before → Cases
     is_refusal : (k : ℕ) → (numbers_answer p list).answer ≡ refusal k → Telling k → r ≡ k → after ≡ before → Cases
-
   cases : Cases
-  unfolding refusal_number
-  cases = go (numbers_answer p list).answer refl h.result h.count
+    cases = go (numbers_answer p list).answer refl h.result h.count
     where
       go : (y : Indexed ℕ) → (numbers_answer p list).answer ≡ y → r ≡ result_word y → after ≡ shown_in y before → Cases
-      go (value c) e q k = is_value c e q k
+      go (value c) e q k = is_value c e (q ∙ word-value c) k
       go (bad_edge i) e q k = is_edge_lem i e (numbers_index p list i e) q k
-      go (refusal m) e q k = is_refusal m e (numbers-number p list m e) q k
+      go (refusal m) e q k = is_refusal m e (numbers-number p list m e) (q ∙ word-told m) k
 
   pub word-accepted : r ≡ 0 → NumberAllMeets p list (Count after) list-after
-  unfolding refusal_number
-  word-accepted z = go cases
+    word-accepted z = go cases
     where
       go : Cases → NumberAllMeets p list (Count after) list-after
       go (is_value c e q k) = record { says = ap value k ∙ sym e; list_is = h.entries }
-      go (is_edge_lem i e l q k) = absurd (omega arith)
+      go (is_edge_lem i e l q k) = absurd (omega (arith, word-edge i))
       go (is_refusal m e t q k) = absurd (omega (arith, t.some))
 
   pub word-bad-edge : refusal_bits r ≡ 5 → NumberAllMeets p list (NotEdge (index_bits r)) list-after × (after ≡ before)
-  unfolding refusal_number
-  word-bad-edge z = go cases
+    word-bad-edge z = go cases
     where
       go : Cases → NumberAllMeets p list (NotEdge (index_bits r)) list-after × (after ≡ before)
       go (is_value c e q k) = absurd (omega arith)
@@ -142,8 +137,7 @@ module _ (p list : List ℕ) (before r : ℕ) (list-after : List ℕ) (after : �
       go (is_refusal m e t q k) = absurd (t.no_five (sym (word_number m t.byte) ∙ ap refusal_bits (sym q) ∙ z))
 
   pub word-refused : r ≢ 0 → refusal_bits r ≢ 5 → NumberAllMeets p list (Refused r) list-after × (after ≡ before)
-  unfolding refusal_number
-  word-refused z f = go cases
+    word-refused z f = go cases
     where
       go : Cases → NumberAllMeets p list (Refused r) list-after × (after ≡ before)
       go (is_value c e q k) = absurd (z q)
