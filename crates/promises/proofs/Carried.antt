@@ -12,7 +12,6 @@
 --   number-built     building the number of an edge gives exactly its bytes, and 7 exactly if the output is shorter
 --   build-each       so every number below c is built as a valid edge of that number
 use mathlib.Core.Path.{◌≡◌, refl, sym, ap, ◌∙◌, subst}
-use mathlib.Core.Logic.{◌⊎◌, inl, inr}
 use mathlib.Core.Bool.{Bool, true, false}
 use mathlib.Core.List.{List, ◌++◌}
 use Prim.Native.Nat.{ℕ, ◌≤◌, ◌<◌}
@@ -25,7 +24,7 @@ use Rattle.rules.specs.Jobs.{Job}
 use Rattle.rules.specs.Valid.{Valid}
 use Rattle.rules.specs.Order.{Before}
 use Rattle.rules.specs.Counts.{count_of}
-use Rattle.rules.specs.Numbers.{number_of, edge_of}
+use Rattle.rules.specs.Numbers.{number_of}
 use Rattle.rules.specs.Refusals.{Answer, refusal_number}
 use Rattle.rules.specs.Refusals.Refusal.{beyond, room}
 use Rattle.rules.specs.Refusals.Answer.{accepted, refused}

@@ -3,7 +3,7 @@
 --   told-value, told-refusal    what a caller in C is told, with 0 and with any other result
 --   count-told, number-told     `edges_count` and `edges_number`: 0 and what is behind the pointer, or a refusal and nothing changed
 --   build-told                  `edges_build`: the same, and the output's bytes
-use mathlib.Core.Path.{◌≡◌, refl, sym, ap, ◌∙◌}
+use mathlib.Core.Path.{◌≡◌, ap}
 use mathlib.Core.Logic.{◌≢◌}
 use mathlib.Core.List.{List}
 use Prim.Native.Nat.{ℕ, ◌<◌}

@@ -112,8 +112,9 @@ module _ (p list : List ℕ) (before r : ℕ) (list-after : List ℕ) (after : �
     is_value : (c : ℕ) → (numbers_answer p list).answer ≡ value c → r ≡ 0 → after ≡ c → Cases
     is_edge_lem : (i : ℕ) → (numbers_answer p list).answer ≡ bad_edge i → i < 200 → r ≡ result_word (bad_edge i) → after ≡ before → Cases
     is_refusal : (k : ℕ) → (numbers_answer p list).answer ≡ refusal k → Telling k → r ≡ k → after ≡ before → Cases
+
   cases : Cases
-    cases = go (numbers_answer p list).answer refl h.result h.count
+  cases = go (numbers_answer p list).answer refl h.result h.count
     where
       go : (y : Indexed ℕ) → (numbers_answer p list).answer ≡ y → r ≡ result_word y → after ≡ shown_in y before → Cases
       go (value c) e q k = is_value c e (q ∙ word-value c) k
@@ -121,7 +122,7 @@ module _ (p list : List ℕ) (before r : ℕ) (list-after : List ℕ) (after : �
       go (refusal m) e q k = is_refusal m e (numbers-number p list m e) (q ∙ word-told m) k
 
   pub word-accepted : r ≡ 0 → NumberAllMeets p list (Count after) list-after
-    word-accepted z = go cases
+  word-accepted z = go cases
     where
       go : Cases → NumberAllMeets p list (Count after) list-after
       go (is_value c e q k) = record { says = ap value k ∙ sym e; list_is = h.entries }
@@ -129,7 +130,7 @@ module _ (p list : List ℕ) (before r : ℕ) (list-after : List ℕ) (after : �
       go (is_refusal m e t q k) = absurd (omega (arith, t.some))
 
   pub word-bad-edge : refusal_bits r ≡ 5 → NumberAllMeets p list (NotEdge (index_bits r)) list-after × (after ≡ before)
-    word-bad-edge z = go cases
+  word-bad-edge z = go cases
     where
       go : Cases → NumberAllMeets p list (NotEdge (index_bits r)) list-after × (after ≡ before)
       go (is_value c e q k) = absurd (omega arith)
@@ -137,7 +138,7 @@ module _ (p list : List ℕ) (before r : ℕ) (list-after : List ℕ) (after : �
       go (is_refusal m e t q k) = absurd (t.no_five (sym (word_number m t.byte) ∙ ap refusal_bits (sym q) ∙ z))
 
   pub word-refused : r ≢ 0 → refusal_bits r ≢ 5 → NumberAllMeets p list (Refused r) list-after × (after ≡ before)
-    word-refused z f = go cases
+  word-refused z f = go cases
     where
       go : Cases → NumberAllMeets p list (Refused r) list-after × (after ≡ before)
       go (is_value c e q k) = absurd (z q)
