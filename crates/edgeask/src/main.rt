@@ -1,12 +1,10 @@
-// One question of ./edges: standard input is its letter, then a pack, or the job block and the edge or the number. The answer is one line, of
-// a pack a line for each edge.
+// One question of ./edges: standard input is its letter, the job block, and the edge or the number; the answer is one line.
 #![tactic(auto)]
 
 ghost use Rattle.std.specs.Prelude.{◌<◌, ◌≤◌, length, IfOk};
 
-use job::{Built, Counted, Job, Numbered, Sized};
+use job::{Built, Counted, Numbered, Sized};
 use lines::Line;
-use pack::{Numbers, Pack};
 use std::io;
 use std::io::Read;
 
@@ -74,22 +72,19 @@ fn wide(b: u8) -> u64
     b as u64
 }
 
-// A number by its low and its high byte.
-fn little(low: u8, high: u8) -> u64
-    ensures { result < 65536 }
-{
-    wide(low) + 256 * wide(high)
-}
-
 // Eight bytes, the lowest first, as a number; 0 if there aren't as many.
 fn number_in(b: &[u8]) -> u64 {
     if b.len() != 8 {
         return 0;
     }
-    little(b[0], b[1])
-        + 65536 * little(b[2], b[3])
-        + 4294967296 * little(b[4], b[5])
-        + 281474976710656 * little(b[6], b[7])
+    wide(b[0])
+        + 256 * wide(b[1])
+        + 65536 * wide(b[2])
+        + 16777216 * wide(b[3])
+        + 4294967296 * wide(b[4])
+        + 1099511627776 * wide(b[5])
+        + 281474976710656 * wide(b[6])
+        + 72057594037927936 * wide(b[7])
 }
 
 fn answer(rt: &impl Print, question: u8, block: &[u8], rest: &[u8]) -> io::Result<()> {
@@ -101,48 +96,12 @@ fn answer(rt: &impl Print, question: u8, block: &[u8], rest: &[u8]) -> io::Resul
     }
 }
 
-// The number and the edge of each entry.
-fn entries(rt: &impl Print, bytes: &[u8], list: &[u64]) -> io::Result<()> {
-    let mut i: usize = 0;
-    while i < list.len() {
-        print!(rt; "{}", list[i])?;
-        text(rt, b" ")?;
-        show(rt, pack::edge(bytes, i))?;
-        i += 1;
-    }
-    Ok(())
-}
-
-fn first_entries(rt: &impl Print, bytes: &[u8], list: &[u64], c: usize) -> io::Result<()> {
-    if c <= list.len() {
-        entries(rt, bytes, &list[0..c])?;
-    }
-    Ok(())
-}
-
-fn numbers(rt: &impl Print, bytes: &[u8]) -> io::Result<()> {
-    let mut list = [0u64; Pack::MOST];
-    match pack::number_all(bytes, &mut list) {
-        Numbers::Count(c) => first_entries(rt, bytes, &list, c),
-        Numbers::NotEdge(_) => refused(rt, 5),
-        Numbers::Refused(r) => refused(rt, r),
-    }
-}
-
-// A pack, or else a block: "block not 20 bytes" is refused with 1.
+// "block not 20 bytes"
 fn ask(rt: &impl Print, input: &[u8]) -> io::Result<()> {
-    if input.len() > 0 && input[0] == b'p' {
-        return numbers(rt, &input[1..]);
-    }
-    if input.len() <= Job::BLOCK {
+    if input.len() < 21 {
         return refused(rt, 1);
     }
-    answer(
-        rt,
-        input[0],
-        &input[1..Job::BLOCK + 1],
-        &input[Job::BLOCK + 1..],
-    )
+    answer(rt, input[0], &input[1..21], &input[21..])
 }
 
 // Reads until the slice is full or the input ends, and answers how many bytes were read.
@@ -161,7 +120,7 @@ fn read_full(from: &mut impl Read, into: &mut [u8]) -> io::Result<usize>
 }
 
 fn main(rt: HostRuntime) -> io::Result<()> {
-    let mut input = [0u8; 65536];
+    let mut input = [0u8; 4096];
     let got = read_full(&mut rt.reader(), &mut input)?;
     ask(&rt, &input[..got])
 }

@@ -1,6 +1,6 @@
--- `edgeask::entries` goes through the list. Assumes nothing.
+-- `packask::entries` goes through the list. Assumes nothing.
 use Rattle.std.proofs.Common.{length, ◌-◌, ◌≤◌}
-use Rattle.edgeask.proofs.entries.Given as goal
+use Rattle.packask.proofs.entries.Given as goal
 
 abbrev pub invariant-loop-i : goal.invariant-loop-i
 invariant-loop-i g l = l.i ≤ length l.list
