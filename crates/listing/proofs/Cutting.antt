@@ -77,11 +77,12 @@ get_d_map g [] i l = absurd (omega arith)
 get_d_map g (n ∷ ns) zero l = refl
 get_d_map g (n ∷ ns) (suc i) l = get_d_map g ns i (omega arith)
 
-pub counting_next : (ns : List ℕ) (i : ℕ) → i < length ns → ((j : ℕ) → j < i → get_or ns j 0 ≡ j) → (j : ℕ) → j < i + 1 → get_or (set ns i i) j 0 ≡ j
-counting_next ns i l f j h = go (dec_lt j i)
+pub counting_next : (ns : List ℕ) (i v : ℕ) → v ≡ i → i < length ns → ((j : ℕ) → j < i → get_or ns j 0 ≡ j)
+    → (j : ℕ) → j < i + 1 → get_or (set ns i v) j 0 ≡ j
+counting_next ns i v e l f j h = go (dec_lt j i)
   where
-    go : Dec (j < i) → get_or (set ns i i) j 0 ≡ j
-    go (yes a) = get_or-set_other ns i j i 0 (λ q. omega arith) ∙ f j a
+    go : Dec (j < i) → get_or (set ns i v) j 0 ≡ j
+    go (yes a) = get_or-set_other ns i j v 0 (λ q. omega arith) ∙ f j a
     go (no a) =
         let q : i ≡ j = omega arith in
-        subst (λ (z : ℕ). get_or (set ns i i) z 0 ≡ z) q (get_or-set_same ns i i 0 l)
+        subst (λ (z : ℕ). get_or (set ns i v) z 0 ≡ z) q (get_or-set_same ns i v 0 l ∙ e)

@@ -5,7 +5,7 @@
 --   Printed                the first i lines are appended, and the next edge begins at begin
 --   printed-none, printed-next, printed-all    none of them, one more, all; printed-part,
 --   printed-room           the next edge, and room for its line
-use mathlib.Core.Path.{◌≡◌, refl, sym, ap, subst}
+use mathlib.Core.Path.{◌≡◌, refl, sym, ap, ap₂, subst}
 use mathlib.Core.List.{List, [], ◌∷◌}
 use Prim.Native.Nat.{ℕ, ◌+◌, ◌*◌, ◌-◌, ◌≤◌, ◌<◌}
 use native.Mathlib.Numerals.{add-one}
@@ -18,16 +18,18 @@ use Rattle.listing.specs.Texts.{Appended, start, edge_at, Roomy}
 use Rattle.listing.proofs.Appending.{appended-none, appended_then, appended_as}
 use Rattle.listing.proofs.Lengths.{line_long}
 
-pub header_of : (b : List ℕ) (c : ℕ) {t t₁ t₂ t₃ t₄ t₅ t₆ : List ℕ} {r₁ r₂ r₃ r₄ r₅ r₆ : ℕ}
-    → Appended t 0 (field family_word (family_of b)) r₁ t₁ → Appended t₁ r₁ (field end_word (n_of b)) r₂ t₂ → Appended t₂ r₂ space r₃ t₃
+pub header_of : (b : List ℕ) (c f n : ℕ) {t t₁ t₂ t₃ t₄ t₅ t₆ : List ℕ} {r₁ r₂ r₃ r₄ r₅ r₆ : ℕ} → f ≡ family_of b → n ≡ n_of b
+    → Appended t 0 (field family_word f) r₁ t₁ → Appended t₁ r₁ (field end_word n) r₂ t₂ → Appended t₂ r₂ space r₃ t₃
     → Appended t₃ r₃ (signed_text (m_of b)) r₄ t₄ → Appended t₄ r₄ (field count_word c) r₅ t₅ → Appended t₅ r₅ feed r₆ t₆
     → Appended t 0 (header_text b c) r₆ t₆
 unfolding header_text
-header_of b c a₁ a₂ a₃ a₄ a₅ a₆ = appended_then a₁ (appended_then a₂ (appended_then a₃ (appended_then a₄ (appended_then a₅ a₆))))
+header_of b c f n p q a₁ a₂ a₃ a₄ a₅ a₆ =
+    appended_then (appended_as (ap (field family_word) p) a₁)
+    (appended_then (appended_as (ap (field end_word) q) a₂) (appended_then a₃ (appended_then a₄ (appended_then a₅ a₆))))
 
-pub refused-of : (r : ℕ) {t t₁ t₂ : List ℕ} {r₁ r₂ : ℕ} → Appended t 0 (field refused_word r) r₁ t₁ → Appended t₁ r₁ feed r₂ t₂ → Appended t 0 (refused_text r) r₂ t₂
+pub refused-of : (r f : ℕ) {t t₁ t₂ : List ℕ} {r₁ r₂ : ℕ} → f ≡ r → Appended t 0 (field refused_word f) r₁ t₁ → Appended t₁ r₁ feed r₂ t₂ → Appended t 0 (refused_text r) r₂ t₂
 unfolding refused_text
-refused-of r a₁ a₂ = appended_then a₁ a₂
+refused-of r f q a₁ a₂ = appended_then (appended_as (ap (field refused_word) q) a₁) a₂
 
 pub shown-none : (e : List ℕ) → length e ≡ 0 → 45 ∷ [] ≡ shown e
 shown-none [] q = refl
@@ -66,19 +68,19 @@ module _ (steps ends old : List ℕ) (many at : ℕ) (ready : Roomy steps ends m
   pub printed-room : place + 23 + length (take (get_or ends i 0 - begin) (drop begin steps)) ≤ length text
   printed-room = omega (arith, edge-long, rise, ready.cut.within i l, ready.room, so.most, so.appended.as_long)
 
-  pub printed-next : (r : ℕ) (new : List ℕ) → Appended text place (line_text i (take (get_or ends i 0 - begin) (drop begin steps))) r new
+  pub printed-next : (n r : ℕ) (new : List ℕ) → n ≡ i → Appended text place (line_text n (take (get_or ends i 0 - begin) (drop begin steps))) r new
       → Printed steps ends old at new r (get_or ends i 0) (i + 1)
   unfolding lines_text edge_at
-  printed-next r new a =
+  printed-next n r new q a =
       let e : List ℕ = take (get_or ends i 0 - begin) (drop begin steps) in
-      let same : line_text i e ≡ line_text i (edge_at steps ends i) =
-      ap (λ (z : ℕ). line_text i (take (get_or ends i 0 - z) (drop z steps))) so.begins in
+      let same : line_text n e ≡ line_text i (edge_at steps ends i) =
+      ap₂ (λ (k z : ℕ). line_text k (take (get_or ends i 0 - z) (drop z steps))) q so.begins in
       record {
         begins = ap (λ (k : ℕ). start ends k) (sym (add-one i));
         appended =
             subst (λ (k : ℕ). Appended old at (lines_text (edge_at steps ends) k) r new) (sym (add-one i))
             (appended_then so.appended (appended_as same a));
-        most = omega (arith, a.place, line_long i e, edge-long, rise, so.most);
+        most = omega (arith, a.place, line_long n e, edge-long, rise, so.most);
       }
 
 pub printed-all : (steps ends old : List ℕ) (many at : ℕ) (text : List ℕ) (place begin i : ℕ) → i ≡ many → Printed steps ends old at text place begin i

@@ -1,8 +1,7 @@
 -- `body::count_up` meets its contract: after i turns the first i numbers are there. Assumes nothing.
-use mathlib.Core.Path.{◌≡◌, refl, sym, ◌∙◌, subst}
-use Prim.Native.Nat.{ℕ, ◌+◌, ◌<◌}
+use mathlib.Core.Path.{refl, ◌∙◌}
 use native.Mathlib.Omega.{arith}
-use lib.ListN.{get_or, set, length-set}
+use lib.ListN.{length-set}
 use Rattle.listing.proofs.Cutting.{counting_next}
 use Rattle.listing.proofs.body.count_up.Goals as goal
 
@@ -13,8 +12,7 @@ pub loop-i-preserved : goal.loop-i-preserved
 loop-i-preserved c = (
   omega (arith, length-set c.loop-i.numbers c.loop-i.i c.wide.result),
   length-set c.loop-i.numbers c.loop-i.i c.wide.result ∙ c.loop-i.invariant.1,
-  subst (λ (x : ℕ). (j : ℕ) → j < c.loop-i.i + 1 → get_or (set c.loop-i.numbers c.loop-i.i x) j 0 ≡ j) (sym c.wide.ensures)
-      (counting_next c.loop-i.numbers c.loop-i.i c.loop-i-test.true c.loop-i.invariant.2),
+  counting_next c.loop-i.numbers c.loop-i.i _ c.wide.ensures c.loop-i-test.true c.loop-i.invariant.2,
 )
 
 pub returns : goal.returns

@@ -36,8 +36,8 @@ line-place-requires c =
 pub loop-i-preserved : goal.loop-i-preserved
 loop-i-preserved c = (
   search rules,
-  printed-next _ _ _ _ _ c.requires _ _ _ _ c.loop-i.invariant.1 c.loop-i-test.true _ _
-      (rw c.wide.ensures at c.line-place.ensures),
+  printed-next _ _ _ _ _ c.requires _ _ _ _ c.loop-i.invariant.1 c.loop-i-test.true _ _ _
+      c.wide.ensures c.line-place.ensures,
 )
 
 pub returns : goal.returns

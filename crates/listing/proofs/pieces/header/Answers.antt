@@ -1,4 +1,5 @@
 -- `pieces::header` meets its contract: its pieces one after the other, each with room behind those before it. Assumes nothing.
+use mathlib.Core.Path.{refl}
 use Prim.Native.Nat.{◌+◌, ◌≤◌}
 use native.Mathlib.Omega.{arith}
 use lib.ListN.{length}
@@ -41,4 +42,4 @@ pub append-requires : goal.append-requires
 append-requires c = omega (arith, count_room (goal.at.append-requires c).After-field-counted)
 
 pub returns : goal.returns
-returns c = header_of _ _ c.byte_field-family.ensures c.byte_field-n.ensures c.append-space.ensures c.signed_byte-m.ensures c.field-counted.ensures c.append.ensures
+returns c = header_of _ _ _ _ refl refl c.byte_field-family.ensures c.byte_field-n.ensures c.append-space.ensures c.signed_byte-m.ensures c.field-counted.ensures c.append.ensures
