@@ -4,13 +4,14 @@
 --   Sort family d v           what the family has from the theory of arches over (d, v)
 --   dyck-sort, schroder-sort, motzkin-sort; sort-of: the one over (d, v)
 --   edge_by, edges_for          the edge of a number, and the edges of a list of numbers or refusal 6, by that theory
---   count-of, table-count     the count, worked out and from a table
+--   count-of                  the count
 --   rank-of, numbers_of       the number of a string that is an edge, and the numbers of a list
 --   edges-of                  the edges of a list of numbers
 use mathlib.Core.Path.{◌≡◌, refl, sym, ap, ap₂, ◌∙◌, subst}
 use mathlib.Core.Bool.{Bool, true, false}
 use mathlib.Core.List.{List, map}
-use Prim.Native.Nat.{ℕ, zero, suc, ◌^◌, ◌≤◌, ◌<◌}
+use Prim.Native.Nat.{ℕ, zero, suc}
+use native.Mathlib.Nat.{le_refl}
 use native.Mathlib.Omega.{arith}
 use lib.Dec.{leb}
 use lib.ListN.{get_or}
@@ -30,17 +31,14 @@ use Rattle.rules.specs.Refusals.Answer.{accepted}
 use Rattle.rules.specs.Answers.{most}
 use Rattle.rules.specs.Questions.{all_below}
 use Rattle.rules.proofs.ArchPaths.{Arched, valid-walk, walk-valid, dyck-arched, schroder-arched, motzkin-arched}
-use Rattle.job.specs.Replies.Reply.{value}
-use Rattle.job.specs.declared.Counted.TheVariants.{Count}
-use Rattle.lines.specs.declared.Rank.{Rank}
-use Rattle.lines.specs.declared.Rank.TheVariants.{At, NoEdge}
-use Rattle.lines.specs.declared.Ranked.TheVariants.{Upto}
+use Rattle.std.specs.Prelude.{Result, Ok, Option, Some, None}
+use Rattle.job.specs.declared.Refusal.{Refusal}
 use Rattle.lines.specs.Known.{CountsOf, NumbersOf, edges_of}
 use Rattle.lines.specs.Ranks.{FrontIn}
 use Rattle.lines.proofs.Ranking.{ranked-of}
 use Rattle.arch.specs.Answers.{arch_job, Numbered, RankOf}
 use Rattle.arch.specs.Table.{Table}
-use Rattle.arch.proofs.Tables.{table-less}
+use Rattle.arch.proofs.Tables.{family_of}
 
 record Sort (family : ℕ → Job) (d : Bool) (v : ℕ) : Type 0 where
   arched : Arched family d v
@@ -72,31 +70,27 @@ edge_by d v n r = print d v (build d v n n r)
 abbrev pub edges_for : Bool → ℕ → ℕ → List ℕ → Answer (List (List ℕ))
 edges_for d v n ns = check (all_below (count d v n) ns) beyond (accepted (map (edge_by d v n) ns))
 
-module _ (d : Bool) (v : ℕ) (f : Family d v) (n : ℕ) (l : count d v n < 2 ^ 64) where
-  fits : leb (count_of (arch_job d v n)) most ≡ true
-  fits = le-leb (count_of (arch_job d v n)) most (omega (arith, (sort-of d v f).counts n))
-
-  pub count-of : (c : ℕ) → c ≡ count d v n → CountsOf (arch_job d v n) (Count c)
-  count-of c e = rw fits (ap value (e ∙ sym ((sort-of d v f).counts n)))
-
 module _ {d : Bool} {v n : ℕ} {table : List ℕ} (full : Table d v n table) where
-  pub table-count : (m : ℕ) → m ≤ n → CountsOf (arch_job d v m) (Count (get_or table m 0))
-  table-count m h = count-of d v full.family m (table-less d v n m table h full).fits (get_or table m 0) (full.full m h)
-
   sort : Sort (arch_job d v) d v
-  sort = sort-of d v full.family
+  sort = sort-of d v (family_of full)
 
-  pub rank-of : (s : List ℕ) (r : Rank) → Numbered d v n s r → RankOf (arch_job d v n) s r
+  fits : leb (count_of (arch_job d v n)) most ≡ true
+  fits = le-leb (count_of (arch_job d v n)) most (omega (arith, full.fits, sort.counts n))
+
+  pub count-of : CountsOf (arch_job d v n) (Ok (get_or table n 0))
+  count-of = rw fits (ap (λ (k : ℕ). (let r : Result ℕ Refusal = Ok k in r)) (full.full n (le_refl n) ∙ sym (sort.counts n)))
+
+  pub rank-of : (s : List ℕ) (r : Option ℕ) → Numbered d v n s r → RankOf (arch_job d v n) s r
   unfolding Valid
-  rank-of s (At r) w = (is_true (is_edge (arch_job d v n) s) (walk-valid (arch_job d v) d v sort.arched n s w.walk), w.numbered ∙ sym (sort.numbers n s))
-  rank-of s NoEdge w = is_false (is_edge (arch_job d v n) s) (λ t. w (valid-walk (arch_job d v) d v sort.arched n s t))
+  rank-of s (Some r) w = (is_true (is_edge (arch_job d v n) s) (walk-valid (arch_job d v) d v sort.arched n s w.walk), w.numbered ∙ sym (sort.numbers n s))
+  rank-of s None w = is_false (is_edge (arch_job d v n) s) (λ t. w (valid-walk (arch_job d v) d v sort.arched n s t))
 
   pub numbers_of : (es : List (List ℕ)) (before after : List ℕ) (k : ℕ) → FrontIn (is_edge (arch_job d v n)) (number_of (arch_job d v n)) es before after k
-      → NumbersOf (arch_job d v n) es before after (Upto k)
+      → NumbersOf (arch_job d v n) es before after (Ok k)
   numbers_of es before after k w =
-      rw (fits d v full.family n full.fits) (ranked-of (is_edge (arch_job d v n)) (number_of (arch_job d v n)) es before after k w)
+      rw fits (ranked-of (is_edge (arch_job d v n)) (number_of (arch_job d v n)) es before after k w)
 
   pub edges-of : (ns : List ℕ) → edges_of (arch_job d v n) ns ≡ edges_for d v n ns
   edges-of ns =
-      rw (fits d v full.family n full.fits)
+      rw fits
       (ap₂ (λ (c : ℕ) (g : ℕ → List ℕ). check (all_below c ns) beyond (accepted (map g ns))) (sort.counts n) (λ i r. sort.edges n r i))

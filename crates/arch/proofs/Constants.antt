@@ -5,7 +5,7 @@
 --   upwards n rest                   the counts for 0, 1, .., n, before rest
 --   schroder-table, motzkin-table    it is a table, up to the last count that fits; Schroder's has zeros behind it
 use mathlib.Core.Path.{◌≡◌, refl, ap, ◌∙◌, sym}
-use mathlib.Core.Bool.{Bool, true}
+use mathlib.Core.Bool.{Bool, true, false}
 use mathlib.Core.List.{List, [], ◌∷◌}
 use Prim.Native.Nat.{ℕ, zero, suc, ◌+◌, ◌-◌, ◌^◌, ◌≤◌, ◌<◌}
 use native.Mathlib.Nat.{le_refl}
@@ -14,7 +14,7 @@ use native.Mathlib.Omega.{arith}
 use lib.ListN.{length, get_or, replicate}
 use Rattle.arches.specs.Counts.{count, counts}
 use Rattle.arches.proofs.Counting.{counts-at}
-use Rattle.arches.proofs.Limits.{Family, schroder_limit, motzkin_limit}
+use Rattle.arches.proofs.Limits.{schroder_limit, motzkin_limit}
 use Rattle.arch.specs.Table.{Table}
 
 unfoldable pub turned : List ℕ → List ℕ → List ℕ
@@ -67,9 +67,10 @@ module _ (d : Bool) (v : ℕ) where
   unfolding upwards
   length-upwards n rest = omega (arith, length-turned (counts d v n) rest, length-counts n)
 
-  upwards-table : (n : ℕ) (rest : List ℕ) → Family d v → n ≤ 45 → count d v n < 2 ^ 64 → Table d v n (upwards n rest)
-  upwards-table n rest f h l = record {
-    family = f;
+  upwards-table : (n : ℕ) (rest : List ℕ) → (d ≡ false → v ≡ 0) → v ≤ 1 → n ≤ 45 → count d v n < 2 ^ 64 → Table d v n (upwards n rest)
+  upwards-table n rest f s h l = record {
+    dyck = f;
+    narrow = s;
     long = omega (arith, length-upwards n rest);
     full = λ k g. upwards-at n k rest g;
     fits = l;
@@ -77,7 +78,7 @@ module _ (d : Bool) (v : ℕ) where
   }
 
 pub schroder-table : Table true 0 28 (upwards true 0 28 (replicate 17 0))
-schroder-table = upwards-table true 0 28 (replicate 17 0) (omega arith) (omega arith) ((schroder_limit 28).0 (le_refl 28))
+schroder-table = upwards-table true 0 28 (replicate 17 0) (λ e. cc) (omega arith) (omega arith) ((schroder_limit 28).0 (le_refl 28))
 
 pub motzkin-table : Table true 1 45 (upwards true 1 45 [])
-motzkin-table = upwards-table true 1 45 [] (omega arith) (omega arith) ((motzkin_limit 45).0 (le_refl 45))
+motzkin-table = upwards-table true 1 45 [] (λ e. cc) (omega arith) (omega arith) ((motzkin_limit 45).0 (le_refl 45))

@@ -14,7 +14,7 @@ use mathlib.Core.Path.{◌≡◌, refl, sym, ap, ◌∙◌}
 use mathlib.Core.Bool.{false}
 use mathlib.Core.Logic.{◌≢◌}
 use mathlib.Core.List.{List}
-use Prim.Native.Nat.{ℕ, ◌+◌, ◌-◌, ◌*◌, ◌/◌, ◌%◌, ◌^◌, ◌≤◌, ◌<◌}
+use Prim.Native.Nat.{ℕ, ◌+◌, ◌-◌, ◌*◌, ◌/◌, ◌%◌, ◌^◌, ◌≤◌, ◌<◌, zero-le}
 use native.Mathlib.Nat.{not-suc-le-zero}
 use native.Mathlib.Decide.{ℕ_discrete, dec_le}
 use native.Mathlib.Omega.{arith}
@@ -106,7 +106,8 @@ filled_next k w l f h e j g = go (ℕ_discrete j k)
 pub filled_table : (n : ℕ) (l : List ℕ) → n ≤ 36 → n < length l → Filled (n + 1) l → Table false 0 n l
 unfolding Filled
 filled_table n l h s f = record {
-  family = refl;
+  dyck = λ _. refl;
+  narrow = zero-le;
   long = s;
   full = λ j i. f j (omega arith);
   fits = fits n h;

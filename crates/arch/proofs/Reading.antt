@@ -2,17 +2,15 @@
 -- the walk with the tree that is read. Assumes nothing.
 --
 --   edge-is, sized-by                         what a tree prints is an edge, and its size is where the walk ends
---   path_good, path-bad, arch_good, arch-bad  what was got, by that test
 --   begun-start, with_dee, with_arch          what the loop of the path reader knows: at its start, and after a `D` or an arch
 --   begun-fits                                the number so far fits
 --   arch-falls, moves, wide                   the bytes for an arch, those after it, and its room
 --   no_room, no_arch                          why no walk goes on: no room for a `D`, no arch
---   ends-over, ends-here                      where the path ends
 --   no_east, no_inside, no_end, no_north      why there is no arch: no room for the `E`, no inside, no byte after it, another than `N`
 --   arch-read                                 the arch
 --   none-way, none-long, none-size, is_edge_lem   the whole string: no walk, too long, another size, or an edge
 use mathlib.Core.Path.{◌≡◌, refl, sym, ap, ap₂, ◌∙◌, subst}
-use mathlib.Core.Bool.{Bool, true, false, not}
+use mathlib.Core.Bool.{Bool, true}
 use mathlib.Core.Logic.{◌≢◌}
 use mathlib.Core.List.{List, [], ◌∷◌, ◌++◌, append-nil}
 use Prim.Native.Nat.{ℕ, suc, ◌+◌, ◌-◌, ◌*◌, ◌^◌, ◌≤◌, ◌<◌, zero-le}
@@ -21,7 +19,6 @@ use native.Mathlib.Numerals.{add-one}
 use native.Mathlib.Omega.{arith}
 use lib.ListN.{get_or, length, drop, length-drop, length-append, drop_of_length-le}
 use lib.Seq.{drop-cons, get_or-drop}
-use borrow.Author.Tests.{not-true, not-false}
 use Rattle.arches.specs.Counts.{count}
 use Rattle.arches.specs.Trees.{Tree, Letter, letter_of, size, number, print, tree_of}
 use Rattle.arches.specs.Trees.Tree.{empty, dee, arch}
@@ -32,7 +29,8 @@ use Rattle.arches.proofs.Paths.{Walk, Next, ByteOf, known, print-dee, print-arch
 use Rattle.arch.specs.Table.{Table}
 use Rattle.arch.specs.Sums.{offset}
 use Rattle.arch.specs.Answers.{IsEdge}
-use Rattle.arch.specs.Reading.{Ends, Stops, Begun, PathRead, ArchRead, NoWay, PathGot, ArchGot}
+use Rattle.arch.proofs.Tables.{family_of}
+use Rattle.arch.specs.Reading.{Ends, Stops, Begun, PathRead, ArchRead, NoWay}
 
 -- ---- parts of the string
 byte_at : (s : List ℕ) (a b : ℕ) → a < length s → get_or s a 0 ≡ b → drop a s ≡ b ∷ drop (a + 1) s
@@ -88,20 +86,6 @@ none_left v (b ∷ s) x n st w = absurd (go (letter_of b) st w)
     go diag t z = t
     go other t z = z
 
--- ---- the code tests `!ok`
-module _ (b : Bool) (v room : ℕ) (s : List ℕ) (from next sz r : ℕ) where
-  pub path_good : not b ≡ false → PathGot b v room s from next sz r → PathRead v room s from next sz r
-  path_good e g = subst (λ (b : Bool). PathGot b v room s from next sz r) (not-false b e) g
-
-  pub path-bad : not b ≡ true → PathGot b v room s from next sz r → NoWay v room (drop from s)
-  path-bad e g = subst (λ (b : Bool). PathGot b v room s from next sz r) (not-true b e) g
-
-  pub arch_good : not b ≡ false → ArchGot b v room s from next sz r → ArchRead v room s from next sz r
-  arch_good e g = subst (λ (b : Bool). ArchGot b v room s from next sz r) (not-false b e) g
-
-  pub arch-bad : not b ≡ true → ArchGot b v room s from next sz r → NoWay v room (69 ∷ drop from s)
-  arch-bad e g = subst (λ (b : Bool). ArchGot b v room s from next sz r) (not-true b e) g
-
 -- ---- the path reader
 pub begun-start : {v room : ℕ} {s : List ℕ} {from : ℕ} → from ≤ length s → Begun v room s from from 0 0
 unfolding print size number
@@ -115,7 +99,7 @@ module _ {v room : ℕ} {s : List ℕ} {from next sz r : ℕ} (w : Begun v room 
 
   pub begun-fits : {l : List ℕ} → Table true v room l → r < 2 ^ 64
   begun-fits t =
-      omega (arith, rw w.sized at (number-below true v w.tree), w.numbered, count_mono true v t.family sz room w.fits, t.fits)
+      omega (arith, rw w.sized at (number-below true v w.tree), w.numbered, count_mono true v (family_of t) sz room w.fits, t.fits)
 
   module _ {k j q : ℕ} (u : ArchRead v (room - sz) s (next + 1) k j q) where
     pub moves : length s - k < length s - next
@@ -165,18 +149,6 @@ module _ {v room : ℕ} {s : List ℕ} {from next sz r : ℕ} (w : Begun v room 
         numbered = number-arch true v w.tree u.tree (sz + j) sz r q (ap₂ (λ (a b : ℕ). a + b) w.sized u.sized) w.sized w.numbered u.numbered ∙ rw (el, ec);
         fits = wide u;
       }
-
-  pub ends-over : length s ≤ next → PathRead v room s from next sz r
-  ends-over h = record { begun = w; stops = rw (drop_of_length-le s h) tt }
-
-  pub ends-here : next < length s → get_or s next 0 ≢ 69 → get_or s next 0 ≢ 68 → PathRead v room s from next sz r
-  ends-here h q p = record { begun = w; stops = rw (byte_at s next (get_or s next 0) h refl) (go (letter_of (get_or s next 0)) (known (get_or s next 0))) }
-    where
-      go : (k : Letter) → ByteOf (get_or s next 0) k → Ends k
-      go north e = tt
-      go east e = absurd (q e)
-      go diag e = absurd (p e)
-      go other e = tt
 
 -- ---- the arch reader
 after-east : (v : ℕ) (s : List ℕ) (x y n : ℕ) → Walk true v x y (69 ∷ s) n → Walk true v (x + suc v) y s n

@@ -2,7 +2,7 @@
 -- refuses. By splitting the walk where a tree begins. Assumes nothing.
 --
 --   Mid                                       a walk by p and then q passes a point between
---   got_good, got-bad, part_good, part-bad    what was got, by the code's test `!ok`
+--   part_ok, part_none                        what was got of a part of the string
 --   ok-none, ok_end                           an empty path is read
 --   no_room, no_inside, no_start, no_east, no_first    why no walk goes by a front that ends with `N`: no room for it, no inside,
 --                                             nothing before the inside, another byte than `E` there, or no first part
@@ -10,7 +10,7 @@
 --   ok-arch, arch-fits                        an arch is read, and its number fits
 --   none-way, none-front, none-size, is_edge_lem  the whole string: no walk, bytes before the path, another size, or an edge
 use mathlib.Core.Path.{◌≡◌, refl, sym, ap, ap₂, ◌∙◌, subst, subst₂}
-use mathlib.Core.Bool.{Bool, true, false, not}
+use mathlib.Core.Bool.{false}
 use mathlib.Core.Logic.{◌≢◌}
 use mathlib.Core.List.{List, [], ◌∷◌, ◌++◌, append-nil, append_assoc}
 use Prim.Native.Nat.{ℕ, suc, ◌+◌, ◌-◌, ◌*◌, ◌^◌, ◌≤◌, ◌<◌, zero-le}
@@ -18,7 +18,6 @@ use native.Mathlib.Nat.{le_refl, sub-zero}
 use native.Mathlib.Omega.{arith}
 use lib.ListN.{get_or, length, take}
 use lib.Seq.{take_all, take-suc, take-take, length-take-le, get_or-take}
-use borrow.Author.Tests.{not-true, not-false}
 use Rattle.arches.specs.Counts.{count}
 use Rattle.arches.specs.Trees.{Tree, Letter, letter_of, size, number, print}
 use Rattle.arches.specs.Trees.Tree.{empty, dee, arch}
@@ -29,7 +28,8 @@ use Rattle.arches.proofs.Paths.{Walk, Next, ByteOf, known, print-arch}
 use Rattle.arch.specs.Table.{Table}
 use Rattle.arch.specs.Sums.{offset}
 use Rattle.arch.specs.Answers.{IsEdge}
-use Rattle.arch.specs.ReadingBack.{Go, NoNorth, NoFront, Ok, Got}
+use Rattle.arch.proofs.Tables.{family_of}
+use Rattle.arch.specs.ReadingBack.{Go, NoNorth, NoFront, Ok}
 use Rattle.arch.proofs.Reading.{edge-is, sized-by}
 
 go-to : (x y : ℕ) {a b : ℕ} (s : List ℕ) (X Y : ℕ) → a ≡ x → b ≡ y → Go a b s X Y → Go x y s X Y
@@ -95,19 +95,13 @@ go-north : (x y X Y : ℕ) → Go x y (78 ∷ []) X Y → (y + 1 ≤ x) × (x �
 unfolding Go
 go-north x y X Y w = (w.0, w.1.0, w.1.1)
 
--- ---- the code tests `!ok`
-pub got_good : (b : Bool) (room : ℕ) (s : List ℕ) (at sz r : ℕ) → not b ≡ false → Got b room s at sz r → Ok room s at sz r
-got_good b room s at sz r e g = subst (λ (b : Bool). Got b room s at sz r) (not-false b e) g
+-- ---- of the part `&s[0..l]`
+module _ (room : ℕ) (s : List ℕ) (l : ℕ) where
+  pub part_ok : {at sz r : ℕ} → Ok room (take (l - 0) s) at sz r → Ok room (take l s) at sz r
+  part_ok {at} {sz} {r} g = subst (λ (z : ℕ). Ok room (take z s) at sz r) (sub-zero l) g
 
-pub got-bad : (b : Bool) (room : ℕ) (s : List ℕ) (at sz r : ℕ) → not b ≡ true → Got b room s at sz r → NoFront room s
-got-bad b room s at sz r e g = subst (λ (b : Bool). Got b room s at sz r) (not-true b e) g
-
--- of the part `&s[0..l]`
-pub part_good : (b : Bool) (room : ℕ) (s : List ℕ) (l at sz r : ℕ) → not b ≡ false → Got b room (take (l - 0) s) at sz r → Ok room (take l s) at sz r
-part_good b room s l at sz r e g = got_good b room (take l s) at sz r e (subst (λ (z : ℕ). Got b room (take z s) at sz r) (sub-zero l) g)
-
-pub part-bad : (b : Bool) (room : ℕ) (s : List ℕ) (l at sz r : ℕ) → not b ≡ true → Got b room (take (l - 0) s) at sz r → NoFront room (take l s)
-part-bad b room s l at sz r e g = got-bad b room (take l s) at sz r e (subst (λ (z : ℕ). Got b room (take z s) at sz r) (sub-zero l) g)
+  pub part_none : NoFront room (take (l - 0) s) → NoFront room (take l s)
+  part_none g = subst (λ (z : ℕ). NoFront room (take z s)) (sub-zero l) g
 
 -- ---- an empty path
 pub ok-none : (room : ℕ) (s : List ℕ) → length s ≡ 0 → Ok room s 0 0 0
@@ -254,7 +248,7 @@ module _ (room : ℕ) (s : List ℕ) (pos : 0 < length s) (e : get_or s (length 
           arch-fits n l t h lo c el ec =
               let b = ok-arch lo c el ec in
               let d : i + j + 1 ≤ n = omega (arith, both_small) in
-              omega (arith, rw b.sized at (number-below false 0 b.tree), b.numbered, count_mono false 0 t.family (i + j + 1) n d, t.fits)
+              omega (arith, rw b.sized at (number-below false 0 b.tree), b.numbered, count_mono false 0 (family_of t) (i + j + 1) n d, t.fits)
 
 -- ---- the whole string
 module _ (n : ℕ) (s : List ℕ) where

@@ -16,7 +16,7 @@ use Rattle.arches.proofs.Counting.{count-arch, before-suc, before_mono}
 use Rattle.arches.proofs.Limits.{count_mono}
 use Rattle.arch.specs.Table.{Table}
 use Rattle.arch.specs.Sums.{offset}
-use Rattle.arch.proofs.Tables.{before-none}
+use Rattle.arch.proofs.Tables.{family_of, before-none}
 
 module _ (d : Bool) (v m : ℕ) where
   mirrored : (i : ℕ) → i ≤ m → count d v (m - i) * count d v (m - (m - i)) ≡ count d v i * count d v (m - i)
@@ -56,4 +56,4 @@ module _ (d : Bool) (v m : ℕ) where
   unfolding offset
   offset-fits n i l t h g =
       let e : m + v + 1 ≤ n = omega arith in
-      omega (arith, whole_is, before_mono d v m i (m + 1) g, count_mono d v t.family (m + v + 1) n e, t.fits)
+      omega (arith, whole_is, before_mono d v m i (m + 1) g, count_mono d v (family_of t) (m + v + 1) n e, t.fits)

@@ -3,7 +3,7 @@
 --
 --   Between             r lies from l up to and with h: a of it is left at l, and b stand above it at h
 --   between_start       so it is at the start
---   falls-left, falls-right    r falls at l, or at h
+--   falls-right         r falls at h
 --   closer              r falls at neither: both sides move
 --   pair_is, pair_fits  the product of both, from a lent table
 --   above               what stands above r, of those that end in an arch
@@ -43,9 +43,6 @@ module _ {d : Bool} {v m r l h a b p : ℕ} (w : Between d v m r l h a b) (ep : 
 
   term_h : p ≡ count d v h * count d v (m - h)
   term_h = ep ∙ mul_comm (count d v l) (count d v h) ∙ ap (λ (z : ℕ). count d v h * count d v z) (sym other_h)
-
-  pub falls-left : a < p → Falls d v m r l a
-  falls-left k = record { below = omega (arith, w.apart); adds = w.left; fits = omega (arith, term-l) }
 
   pub falls-right : b < p → Falls d v m r h (p - 1 - b)
   falls-right k = record {

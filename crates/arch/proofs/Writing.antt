@@ -6,7 +6,7 @@
 --   spelt-none, spelt-dee, spelt-arch an empty path, one that ends in `D`, one that ends in an arch
 --   spelt-before                      as many bytes as there were
 --   Insides, insides                  what the code asks between an arch's inside and its first part
---   spelt-whole, put_in_front          the spelt bytes, put to the front of others: there is room
+--   room_in_front, front-length, part-length, put_in_front    the spelt bytes, copied to the front of others
 use mathlib.Core.Path.{◌≡◌, refl, sym, ap, ◌∙◌}
 use mathlib.Core.Bool.{Bool}
 use mathlib.Core.List.{List, [], ◌∷◌, ◌++◌, append-nil, append_assoc}
@@ -17,17 +17,12 @@ use native.Mathlib.Omega.{arith}
 use lib.Dec.{T}
 use lib.ListN.{length, take, drop, set, length-append, length-set, length-drop, take-append-drop, drop_of_length-le, replicate, length-replicate}
 use lib.Seq.{append_snoc, take_all, take-set-le, take-take, set_split, drop_at, length-take-le}
-use borrow.Author.Tests.{le-leb}
 use Rattle.arches.specs.Counts.{if_d, count}
 use Rattle.arches.specs.Trees.{Tree, size, number, build, print}
 use Rattle.arches.specs.Trees.Tree.{dee, arch}
 use Rattle.arches.proofs.Counting.{if_d-pos, count-short}
 use Rattle.arches.proofs.Lengths.{print-length}
 use Rattle.arches.proofs.Ranking.{pos-of_product, number-arch, number-one, build-built}
-use Rattle.rules.specs.Refusals.Answer.{accepted}
-use Rattle.rules.specs.Answers.{written}
-use Rattle.job.specs.declared.Built.{Built}
-use Rattle.job.specs.Replies.{BuiltAs}
 use Rattle.arch.specs.Sums.{Falls}
 use Rattle.arch.specs.Answers.{EdgeInFront, Spelt}
 
@@ -183,12 +178,7 @@ insides {d} {v} {y} n i pos w le room h lt s =
     record { some = omega (arith, s.long); room = omega (arith, s.long); under = omega (arith, s.long) }
 
 -- ---- put to the front of others
-module _ {d : Bool} {v n r : ℕ} {new : List ℕ} {k : ℕ} (s : Spelt d v n r (replicate 128 0) new 128 k) where
-  pub spelt-whole : 128 ≤ length new
-  spelt-whole =
-      let z = length-replicate {A = ℕ} 128 0 in
-      omega (arith, spelt-length d v n r (replicate 128 0) new 128 k s (omega arith))
-
+module _ {d : Bool} {v n r : ℕ} {new : List ℕ} {k : ℕ} (s : Spelt d v n r (replicate 128 0) new 128 k) (lt : r < count d v n) (out : List ℕ) where
   part-is : take (128 - k) (drop k new) ≡ print d v (build d v n n r)
   part-is =
       let E = print d v (build d v n n r) in
@@ -196,19 +186,18 @@ module _ {d : Bool} {v n r : ℕ} {new : List ℕ} {k : ℕ} (s : Spelt d v n r 
       let whole : drop k new ≡ E = s.shown ∙ ap (λ (z : List ℕ). E ++ z) (drop_of_length-le (replicate 128 0) {i = 128} (omega arith)) ∙ append-nil E in
       ap (take (128 - k)) whole ∙ take_all (128 - k) E (omega (arith, s.long))
 
-  module _ (lt : r < count d v n) (out after : List ℕ) (room : n + n ≤ length out) (x : Built) (p : BuiltAs (written (accepted (take (128 - k) (drop k new))) out) x after) where
-    put_is : BuiltAs (record { answer = accepted (length (print d v (build d v n n r))); output = print d v (build d v n n r) ++ drop (length (print d v (build d v n n r))) out }) x after
-    unfolding written
-    put_is =
-        let fits : length (print d v (build d v n n r)) ≤ length out = omega (arith, long-least d v n r lt) in
-        rw (le-leb (length (print d v (build d v n n r))) (length out) fits) at (rw part-is at p)
+  pub room_in_front : n + n ≤ length out → 128 - k ≤ length out
+  room_in_front h = omega (arith, s.long, long-least d v n r lt)
 
-    pub put_in_front : EdgeInFront d v n r out after (128 - k)
-    put_in_front =
-        let q = put_is.output in
-        let long : length (print d v (build d v n n r)) ≡ 128 - k = omega (arith, s.long) in
-        record {
-          shown = rw long at q;
-          long = long;
-          short = omega (arith, long-least d v n r lt);
-        }
+  pub front-length : n + n ≤ length out → 128 - k ≡ length (take (128 - k) out)
+  front-length h = sym (length-take-le (128 - k) out (room_in_front h))
+
+  pub part-length : length (take (128 - k) (drop k new)) ≡ 128 - k
+  part-length = omega (arith, ap length part-is, s.long)
+
+  pub put_in_front : (part : List ℕ) → part ≡ take (128 - k) (drop k new) → EdgeInFront d v n r out (part ++ drop (128 - k) out) (128 - k)
+  put_in_front part e = record {
+    shown = ap (λ (z : List ℕ). z ++ drop (128 - k) out) (e ∙ part-is);
+    long = omega (arith, s.long);
+    short = omega (arith, s.long, long-least d v n r lt);
+  }

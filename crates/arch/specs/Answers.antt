@@ -6,15 +6,13 @@
 --   RankOf J s r              r says the number of s as an edge of the job J, or that s is none
 --   EdgeInFront d v n r old new k   the first k of the bytes old are now the edge of number r, and the others are as they were
 --   Spelt d v n r old new end k   the bytes old from k up to end are now the edge of number r, and the others are as they were
-use Rattle.std.specs.Prelude.{◌≡◌, Bool, true, false, List, ◌++◌, ℕ, zero, suc, ◌+◌, ◌≤◌, length, take, drop}
+use Rattle.std.specs.Prelude.{◌≡◌, Bool, true, false, List, ◌++◌, ℕ, zero, suc, ◌+◌, ◌≤◌, length, take, drop, Option, Some, None}
 use Rattle.arches.specs.Trees.{number, build, print, tree_of}
 use Rattle.arches.proofs.Paths.{Walk}
 use Rattle.rules.specs.Jobs.{Job}
 use Rattle.rules.specs.Jobs.Job.{dyck, schroder, motzkin}
 use Rattle.rules.specs.Valid.{is_edge}
 use Rattle.rules.specs.Numbers.{number_of}
-use Rattle.lines.specs.declared.Rank.{Rank}
-use Rattle.lines.specs.declared.Rank.TheVariants.{At, NoEdge}
 use Rattle.lines.specs.Ranks.{RankIs}
 
 abbrev pub arch_job : Bool → ℕ → ℕ → Job
@@ -29,11 +27,11 @@ pub record IsEdge (d : Bool) (v n r : ℕ) (s : List ℕ) : Type 0 where
   pub numbered : r ≡ number d v (tree_of d v s)
 
 -- "5 Not an edge: the bytes aren't a valid edge of the job"
-abbrev pub Numbered : Bool → ℕ → ℕ → List ℕ → Rank → Type 0
-Numbered d v n s (At r) = IsEdge d v n r s
-Numbered d v n s NoEdge = Walk d v 0 0 s n → ⊥
+abbrev pub Numbered : Bool → ℕ → ℕ → List ℕ → Option ℕ → Type 0
+Numbered d v n s (Some r) = IsEdge d v n r s
+Numbered d v n s None = Walk d v 0 0 s n → ⊥
 
-abbrev pub RankOf : Job → List ℕ → Rank → Type 0
+abbrev pub RankOf : Job → List ℕ → Option ℕ → Type 0
 RankOf J s r = RankIs (is_edge J s) (number_of J s) r
 
 -- "An accepted write fills the front of the output, reports its length and touches nothing behind it."

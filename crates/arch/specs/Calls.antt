@@ -1,23 +1,18 @@
--- What is known of a block.
+-- What is known of a block of family 2, 4 or 5.
 --
---   Limited b room family n limit   the block is of the family and n, there is room, and n is no more than the most whose count fits
---   KnownIs b room r               what each case of Known says
-use Rattle.std.specs.Prelude.{◌≡◌, Bool, true, false, List, ℕ, ◌≤◌}
-use Rattle.rules.specs.Jobs.{Job}
-use Rattle.rules.specs.Jobs.Job.{dyck, schroder, motzkin}
+--   Limited b s n     the block is of the family s and n, which is no more than the most whose count fits
+--   KnownIs b s r     r is such an n, or the block's refusal, 1 to 4
+use Rattle.std.specs.Prelude.{true, List, ℕ, ◌≤◌, Result, Ok, Err}
 use Rattle.rules.specs.Blocks.{family_of, square}
+use Rattle.job.specs.declared.Refusal.{Refusal}
 use Rattle.lines.specs.Known.{Refusing, Ending}
-use Rattle.arch.specs.declared.known.Known.{Known}
-use Rattle.arch.specs.declared.known.Known.TheVariants.{NotMine, NoRoom, Refused, Dyck, Schroder, Motzkin}
+use Rattle.arch.specs.declared.square.Square.{Square}
+use Rattle.arch.specs.Squares.{job_of, limit_of}
 
-pub record Limited (b : List ℕ) (room : Bool) (family : ℕ → Job) (n limit : ℕ) : Type 0 where
-  pub ends : Ending (square (family_of b)) room b (family n)
-  pub small : n ≤ limit
+pub record Limited (b : List ℕ) (s : Square) (n : ℕ) : Type 0 where
+  pub ends : Ending (square (family_of b)) true b (job_of s n)
+  pub small : n ≤ limit_of s
 
-abbrev pub KnownIs : List ℕ → Bool → Known → Type 0
-KnownIs b room NotMine = square (family_of b) ≡ false
-KnownIs b room NoRoom = (square (family_of b) ≡ true) × (room ≡ false)
-KnownIs b room (Refused r) = Refusing (square (family_of b)) room b r
-KnownIs b room (Dyck n) = Limited b room dyck n 36
-KnownIs b room (Schroder n) = Limited b room schroder n 28
-KnownIs b room (Motzkin n) = Limited b room motzkin n 45
+abbrev pub KnownIs : List ℕ → Square → Result ℕ Refusal → Type 0
+KnownIs b s (Ok n) = Limited b s n
+KnownIs b s (Err r) = Refusing (square (family_of b)) true b r

@@ -1,4 +1,5 @@
 pub mod Table
+pub mod Squares
 pub mod Sums
 pub mod Answers
 pub mod Reading

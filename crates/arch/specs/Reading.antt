@@ -10,10 +10,11 @@
 --   NoWay v room s         from no point (x, y) with y ≤ x does a walk go by s to (x + room, x + room)
 --   PathGot                a path is read, or no walk goes by the bytes from `from` on
 --   ArchGot                an arch is read, or no walk goes by `E` and the bytes from `from` on
-use Rattle.std.specs.Prelude.{◌≡◌, Bool, true, false, List, [], ◌∷◌, ◌++◌, ℕ, ◌+◌, ◌≤◌, length, drop}
+use Rattle.std.specs.Prelude.{◌≡◌, true, List, [], ◌∷◌, ◌++◌, ℕ, ◌+◌, ◌≤◌, length, drop, Option, Some, None}
 use Rattle.arches.specs.Trees.{Tree, Letter, letter_of, size, number, print}
 use Rattle.arches.specs.Trees.Letter.{north, east, diag, other}
 use Rattle.arches.proofs.Paths.{Walk}
+use Rattle.arch.specs.declared.forward.Part.{Part}
 
 abbrev pub Ends : Letter → Type 0
 Ends north = Unit {0}
@@ -48,10 +49,10 @@ pub record ArchRead (v room : ℕ) (s : List ℕ) (from next sz r : ℕ) : Type 
 unfoldable pub NoWay : ℕ → ℕ → List ℕ → Type 0
 NoWay v room s = (x y : ℕ) → y ≤ x → Walk true v x y s (x + room) → ⊥
 
-abbrev pub PathGot : Bool → ℕ → ℕ → List ℕ → ℕ → ℕ → ℕ → ℕ → Type 0
-PathGot true v room s from next sz r = PathRead v room s from next sz r
-PathGot false v room s from next sz r = NoWay v room (drop from s)
+abbrev pub PathGot : ℕ → ℕ → List ℕ → ℕ → Option Part → Type 0
+PathGot v room s from (Some p) = PathRead v room s from p.next p.size p.number
+PathGot v room s from None = NoWay v room (drop from s)
 
-abbrev pub ArchGot : Bool → ℕ → ℕ → List ℕ → ℕ → ℕ → ℕ → ℕ → Type 0
-ArchGot true v room s from next sz r = ArchRead v room s from next sz r
-ArchGot false v room s from next sz r = NoWay v room (69 ∷ drop from s)
+abbrev pub ArchGot : ℕ → ℕ → List ℕ → ℕ → Option Part → Type 0
+ArchGot v room s from (Some p) = ArchRead v room s from p.next p.size p.number
+ArchGot v room s from None = NoWay v room (69 ∷ drop from s)

@@ -5,9 +5,10 @@
 --   NoFront room s        no walk from the start goes by s to a point with y up to room
 --   Ok room s at size r   from `at` on s is a path with this size and number, the longest one, and no larger than room
 --   Got                   that, or that no walk goes by s
-use Rattle.std.specs.Prelude.{◌≡◌, Bool, true, false, ◌≢◌, List, [], ◌∷◌, ◌++◌, ℕ, ◌-◌, ◌≤◌, ◌<◌, get_or, length, take}
+use Rattle.std.specs.Prelude.{◌≡◌, false, ◌≢◌, List, [], ◌∷◌, ◌++◌, ℕ, ◌-◌, ◌≤◌, ◌<◌, get_or, length, take, Option, Some, None}
 use Rattle.arches.specs.Trees.{Tree, letter_of, size, number, print}
 use Rattle.arches.proofs.Paths.{Next}
+use Rattle.arch.specs.declared.reverse.Part.{Part}
 
 unfoldable pub Go : ℕ → ℕ → List ℕ → ℕ → ℕ → Type 0
 Go x y [] X Y = (x ≡ X) × (y ≡ Y)
@@ -28,6 +29,6 @@ pub record Ok (room : ℕ) (s : List ℕ) (at sz r : ℕ) : Type 0 where
   pub small : sz ≤ room
   pub stops : NoNorth s at
 
-abbrev pub Got : Bool → ℕ → List ℕ → ℕ → ℕ → ℕ → Type 0
-Got true room s at sz r = Ok room s at sz r
-Got false room s at sz r = NoFront room s
+abbrev pub Got : ℕ → List ℕ → Option Part → Type 0
+Got room s (Some p) = Ok room s p.at p.size p.number
+Got room s None = NoFront room s

@@ -4,6 +4,7 @@ ghost use Rattle.arches.specs.Counts.{count};
 ghost use Rattle.arch.specs.Table.{Table};
 ghost use Rattle.arch.specs.Answers.{Spelt, EdgeInFront};
 
+use crate::parts::Parts;
 use crate::sums::{d_count, left_over, locate, times};
 use job::Step;
 use lines::Line;
@@ -81,12 +82,21 @@ fn inside(
 }
 
 // Writes the edge of number r to the front of out, and says how long it is.
-pub(crate) fn build(out: &mut [u8], table: &[u64; 46], d: bool, v: usize, n: usize, r: u64) -> usize
-    requires { Table d v n table.now × (r < count d v n) × (n + n ≤ length out.old) }
-    ensures { EdgeInFront d v n r out.old out.new result }
+pub(crate) fn build(out: &mut [u8], parts: &Parts, r: u64) -> usize
+    requires { (r < count parts.now.d parts.now.v parts.now.n) × (parts.now.n + parts.now.n ≤ length out.old) }
+    ensures { EdgeInFront parts.now.d parts.now.v parts.now.n r out.old out.new result }
 {
     let mut buf = [0u8; Line::LONGEST];
-    let from = spell(&mut buf, table, d, v, Line::LONGEST, n, r);
-    job::put(&buf[from..], out);
-    Line::LONGEST - from
+    let from = spell(
+        &mut buf,
+        &parts.table,
+        parts.d,
+        parts.v,
+        Line::LONGEST,
+        parts.n,
+        r,
+    );
+    let k = Line::LONGEST - from;
+    out[..k].copy_from_slice(&buf[from..]);
+    k
 }

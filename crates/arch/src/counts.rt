@@ -1,15 +1,13 @@
 // How far the counts fit 64 bits, and the counts of families 4 and 5: document 01's S and M. All three families lend a table of one
 // length along, as long as the longest.
-ghost use Rattle.std.specs.Prelude.{true};
-ghost use Rattle.arch.specs.Table.{Table};
-
 pub(crate) const DYCK_LIMIT: usize = 36;
 
 pub(crate) const SCHRODER_LIMIT: usize = 28;
 
 pub(crate) const MOTZKIN_LIMIT: usize = 45;
 
-const SCHRODER: [u64; 46] = [
+// S(0), S(1), .., S(28).
+pub(crate) const SCHRODER: [u64; 46] = [
     1,
     2,
     6,
@@ -58,7 +56,8 @@ const SCHRODER: [u64; 46] = [
     0,
 ];
 
-const MOTZKIN: [u64; 46] = [
+// M(0), M(1), .., M(45).
+pub(crate) const MOTZKIN: [u64; 46] = [
     1,
     1,
     2,
@@ -106,17 +105,3 @@ const MOTZKIN: [u64; 46] = [
     4684478925507420069,
     13603677110519480289,
 ];
-
-// S(0), S(1), .., S(28), to lend along.
-pub(crate) fn schroder_counts() -> [u64; 46]
-    ensures { Table true 0 28 result }
-{
-    SCHRODER
-}
-
-// M(0), M(1), .., M(45), to lend along.
-pub(crate) fn motzkin_counts() -> [u64; 46]
-    ensures { Table true 1 45 result }
-{
-    MOTZKIN
-}

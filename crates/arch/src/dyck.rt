@@ -11,6 +11,7 @@ fn part_count(memo: &mut [u64; 46], n: usize) -> u64
     requires { (n ≤ 36) × Good memo.old × (length memo.old ≡ 46) }
     ensures { (result ≡ count false 0 n) × Good memo.new × Kept memo.old memo.new × Filled (n + 1) memo.new }
 {
+    // kept: 0, which no count is, says that it isn't known, since the memo is lent on as the table; with an Option for each it is twice as long, and copied.
     let known = memo[n];
     if known != 0 {
         return known;
@@ -31,9 +32,7 @@ fn count_memo(memo: &mut [u64; 46], n: usize) -> u64
     }
     let half = n / 2;
     let mut sum: u64 = 0;
-    let mut i = half;
-    while 0 < i {
-        i -= 1;
+    for i in (0..half).rev() {
         let a = part_count(memo, i);
         let b = part_count(memo, n - 1 - i);
         sum += a * b;
@@ -47,15 +46,6 @@ fn count_memo(memo: &mut [u64; 46], n: usize) -> u64
     let c = twice + a * a;
     memo[n] = c;
     c
-}
-
-// C(n), from an empty memo.
-pub(crate) fn dyck_count(n: usize) -> u64
-    requires { n ≤ 36 }
-    ensures { result ≡ count false 0 n }
-{
-    let mut memo: [u64; 46] = [0; 46];
-    count_memo(&mut memo, n)
 }
 
 // C(0), C(1), .., C(n), to lend along: what one count leaves in its memo.

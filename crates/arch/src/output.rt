@@ -2,35 +2,32 @@
 ghost use Rattle.std.specs.Prelude.{length};
 ghost use Rattle.lines.specs.Lines.{Room};
 ghost use Rattle.lines.specs.Known.{BuildsOf};
-ghost use Rattle.arch.specs.Table.{Table};
 ghost use Rattle.arch.specs.Answers.{arch_job};
 
 use crate::builder;
-use job::Built;
+use crate::parts::Parts;
+use job::Refusal;
 
 // "6 Beyond", if any number is; else each edge is built where the one before it ends.
+// kept: a loop like it in `rows` and `grid`: of one for all, over a reader that it is lent, each call `requires` what the reader does, and no public
+// function of a library has a `requires`.
 pub(crate) fn write_edges(
+    parts: &Parts,
+    numbers: &[u64],
     steps: &mut [u8],
     ends: &mut [usize],
-    table: &[u64; 46],
-    d: bool,
-    v: usize,
-    n: usize,
-    numbers: &[u64],
-) -> Built
-    requires { Table d v n table.now × Room (length numbers.now) (length steps.old) (length ends.old) }
-    ensures { BuildsOf (arch_job d v n) numbers.now steps.old ends.old steps.new ends.new result }
+) -> Result<usize, Refusal>
+    requires { Room (length numbers.now) (length steps.old) (length ends.old) }
+    ensures { BuildsOf (arch_job parts.now.d parts.now.v parts.now.n) numbers.now steps.old ends.old steps.new ends.new result }
 {
-    if !lines::all_below(numbers, table[n]) {
-        return Built::Refused(6);
+    if !lines::all_below(numbers, parts.last()) {
+        return Err(Refusal::Beyond);
     }
     let mut at: usize = 0;
-    let mut i: usize = 0;
-    while i < numbers.len() {
-        let k = builder::build(&mut steps[at..], table, d, v, n, numbers[i]);
+    for (i, &r) in numbers.iter().enumerate() {
+        let k = builder::build(&mut steps[at..], parts, r);
         at += k;
         ends[i] = at;
-        i += 1;
     }
-    Built::Length(at)
+    Ok(at)
 }

@@ -15,7 +15,7 @@ use Rattle.rules.specs.Blocks.{job_answer}
 use Rattle.rules.specs.Answers.{known_job, count_answer}
 use Rattle.rules.proofs.Answering.{known-told, known_over, known-fits, count-told}
 use Rattle.job.specs.Replies.{reply}
-use Rattle.job.specs.Replies.Reply.{value}
+use Rattle.std.specs.Prelude.{Ok}
 use Rattle.job.proofs.Says.{value_not}
 
 pub record Accepted (b : List ℕ) : Type 0 where
@@ -23,7 +23,7 @@ pub record Accepted (b : List ℕ) : Type 0 where
   pub answer : known_job b ≡ accepted job
   pub made : job_answer b ≡ accepted job
 
-pub known_of : (b : List ℕ) (n : ℕ) → value n ≡ reply (count_answer b) → Accepted b
+pub known_of : (b : List ℕ) (n : ℕ) → Ok n ≡ reply (count_answer b) → Accepted b
 known_of b n v = go (job_answer b) refl
   where
     uncounted : (x : Refusal) → known_job b ≡ refused x → ⊥

@@ -12,17 +12,18 @@ use Rattle.rules.specs.Refusals.{refusal_number}
 use Rattle.rules.specs.Whole.{Indexed, Listed, numbers_answer}
 use Rattle.rules.specs.Whole.Indexed.{value, refusal, bad_edge}
 use Rattle.rules.proofs.Wholes.{numbers_index}
-use Rattle.pack.specs.declared.Numbers.{Numbers}
-use Rattle.pack.specs.declared.Numbers.TheVariants.{NotEdge}
+use Rattle.std.specs.Prelude.{Result, Err}
+use Rattle.pack.specs.declared.Fault.{Fault}
+use Rattle.pack.specs.declared.Fault.TheVariants.{NotEdge}
 use Rattle.pack.specs.Replies.{numbers_says}
 use Rattle.pack.specs.Whole.{ListedAs}
 use Rattle.edges.specs.ResultWords.{result_word, shown_in, SeenNumbers, refusal_bits, place_bits, index_bits, rest_bits}
 
-pub sees-numbers : (y : Indexed ℕ) (w : Listed) (x : Numbers) (before : ℕ) (after : List ℕ) → numbers_says x ≡ y → ListedAs w x after
+pub sees-numbers : (y : Indexed ℕ) (w : Listed) (x : Result ℕ Fault) (before : ℕ) (after : List ℕ) → numbers_says x ≡ y → ListedAs w x after
     → SeenNumbers w (result_word y) before (shown_in y before) after
 sees-numbers y w x before after e h = rw (sym e ∙ h.says) (record { result = refl; count = refl; entries = h.list_is })
 
-pub index_small : (p list after : List ℕ) (x : Numbers) (i : ℕ) → ListedAs (numbers_answer p list) x after → x ≡ NotEdge i → i < 200
+pub index_small : (p list after : List ℕ) (x : Result ℕ Fault) (i : ℕ) → ListedAs (numbers_answer p list) x after → x ≡ Err (NotEdge i) → i < 200
 index_small p list after x i h e = numbers_index p list i (sym h.says ∙ ap numbers_says e)
 
 pub word-value : (v : ℕ) → result_word (value v) ≡ 0

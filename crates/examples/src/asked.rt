@@ -1,78 +1,28 @@
 // Lists asked of every engine and of `calls`, each answer with what was lent afterwards: three places for numbers and for ends; of 300 bytes for
 // steps the first twelve, and whether the others are as they were.
 use crate::words;
+use lines::Unanswered;
+use std::fmt::Display;
 use std::io;
 
-fn shown(rt: &impl Print, numbers: &[u64]) -> io::Result<()> {
-    let mut i = 0;
-    while i < numbers.len() {
-        words::decimal(rt, numbers[i])?;
-        i += 1;
+fn shown<T: Display>(rt: &impl Print, list: &[T]) -> io::Result<()> {
+    for x in list {
+        print!(rt; "{x} ")?;
     }
     Ok(())
 }
 
-fn sizes(rt: &impl Print, ends: &[usize]) -> io::Result<()> {
-    let mut i = 0;
-    while i < ends.len() {
-        words::size(rt, ends[i])?;
-        i += 1;
-    }
-    Ok(())
-}
-
-fn by_arch(
+// The numbers that an engine answers, and what it was lent for them.
+fn numbers_by<F: FnOnce(&mut [u64]) -> Option<Result<usize, Unanswered>>>(
     rt: &impl Print,
-    block: &[u8],
-    bytes: &[u8],
-    from: usize,
-    ends: &[usize],
-) -> io::Result<()> {
+    engine: &str,
+    ask: F,
+) -> io::Result<()>
+    requires { F.IsAlwaysCallable ask }
+{
     let mut numbers = [7u64; 3];
-    words::text(rt, b" arch ")?;
-    words::numbering(rt, arch::number_all(block, bytes, from, ends, &mut numbers))?;
-    shown(rt, &numbers)
-}
-
-fn by_rows(
-    rt: &impl Print,
-    block: &[u8],
-    bytes: &[u8],
-    from: usize,
-    ends: &[usize],
-) -> io::Result<()> {
-    let mut numbers = [7u64; 3];
-    words::text(rt, b" rows ")?;
-    words::numbering(rt, rows::number_all(block, bytes, from, ends, &mut numbers))?;
-    shown(rt, &numbers)
-}
-
-fn by_grid(
-    rt: &impl Print,
-    block: &[u8],
-    bytes: &[u8],
-    from: usize,
-    ends: &[usize],
-) -> io::Result<()> {
-    let mut numbers = [7u64; 3];
-    words::text(rt, b" grid ")?;
-    words::numbering(rt, grid::number_all(block, bytes, from, ends, &mut numbers))?;
-    shown(rt, &numbers)
-}
-
-fn by_calls(
-    rt: &impl Print,
-    block: &[u8],
-    bytes: &[u8],
-    from: usize,
-    ends: &[usize],
-) -> io::Result<()> {
-    let mut numbers = [7u64; 3];
-    words::text(rt, b" calls ")?;
-    words::ranked(
-        rt,
-        calls::number_all(block, bytes, from, ends, &mut numbers),
-    )?;
+    print!(rt; " {engine} ")?;
+    words::mine(rt, "upto ", ask(&mut numbers))?;
     shown(rt, &numbers)
 }
 
@@ -84,85 +34,68 @@ pub(crate) fn numbers(
     from: usize,
     ends: &[usize],
 ) -> io::Result<()> {
-    words::text(rt, bytes)?;
-    by_arch(rt, block, bytes, from, ends)?;
-    by_rows(rt, block, bytes, from, ends)?;
-    by_grid(rt, block, bytes, from, ends)?;
-    by_calls(rt, block, bytes, from, ends)?;
-    words::text(rt, b" walks ")?;
+    rt.write_all(bytes)?;
+    numbers_by(rt, "arch", |numbers| {
+        arch::number_all(block, bytes, from, ends, numbers)
+    })?;
+    numbers_by(rt, "rows", |numbers| {
+        rows::number_all(block, bytes, from, ends, numbers)
+    })?;
+    numbers_by(rt, "grid", |numbers| {
+        grid::number_all(block, bytes, from, ends, numbers)
+    })?;
+    numbers_by(rt, "calls", |numbers| {
+        Some(calls::number_all(block, bytes, from, ends, numbers))
+    })?;
+    print!(rt; " walks ")?;
     words::checked(rt, walks::walk_all(block, bytes, from, ends))?;
-    words::end(rt)
+    println!(rt)
 }
 
-// Whether all bytes from a place on are dots.
-fn is_dotted(steps: &[u8], from: usize) -> bool {
-    let mut i = from;
-    while i < steps.len() {
-        if steps[i] != b'.' {
-            return false;
-        }
-        i += 1;
-    }
-    true
-}
-
-fn laid(rt: &impl Print, steps: &[u8], ends: &[usize]) -> io::Result<()> {
-    sizes(rt, ends)?;
-    words::yes(rt, is_dotted(steps, 12))?;
-    words::text(rt, lines::part(steps, 0, 12))
-}
-
-fn from_arch(rt: &impl Print, block: &[u8], numbers: &[u64]) -> io::Result<()> {
+// The edges that an engine answers, and what it was lent for them.
+fn edges_by<F: FnOnce(&mut [u8], &mut [usize]) -> Option<Result<usize, Unanswered>>>(
+    rt: &impl Print,
+    engine: &str,
+    ask: F,
+) -> io::Result<()>
+    requires { F.IsAlwaysCallable ask }
+{
     let mut steps = [b'.'; 300];
     let mut ends = [7usize; 3];
-    words::text(rt, b" arch ")?;
-    words::building(rt, arch::build_all(block, numbers, &mut steps, &mut ends))?;
-    laid(rt, &steps, &ends)
-}
-
-fn from_rows(rt: &impl Print, block: &[u8], numbers: &[u64]) -> io::Result<()> {
-    let mut steps = [b'.'; 300];
-    let mut ends = [7usize; 3];
-    words::text(rt, b" rows ")?;
-    words::building(rt, rows::build_all(block, numbers, &mut steps, &mut ends))?;
-    laid(rt, &steps, &ends)
-}
-
-fn from_grid(rt: &impl Print, block: &[u8], numbers: &[u64]) -> io::Result<()> {
-    let mut steps = [b'.'; 300];
-    let mut ends = [7usize; 3];
-    words::text(rt, b" grid ")?;
-    words::building(rt, grid::build_all(block, numbers, &mut steps, &mut ends))?;
-    laid(rt, &steps, &ends)
-}
-
-fn from_calls(rt: &impl Print, block: &[u8], numbers: &[u64]) -> io::Result<()> {
-    let mut steps = [b'.'; 300];
-    let mut ends = [7usize; 3];
-    words::text(rt, b" calls ")?;
-    words::wrote(rt, calls::build_all(block, numbers, &mut steps, &mut ends))?;
-    laid(rt, &steps, &ends)
+    print!(rt; " {engine} ")?;
+    words::mine(rt, "length ", ask(&mut steps, &mut ends))?;
+    shown(rt, &ends)?;
+    words::yes(rt, steps[12..].iter().all(|step| *step == b'.'))?;
+    rt.write_all(&steps[0..12])
 }
 
 // The edges of a list of numbers.
 pub(crate) fn edges(rt: &impl Print, block: &[u8], numbers: &[u64]) -> io::Result<()> {
     shown(rt, numbers)?;
-    from_arch(rt, block, numbers)?;
-    from_rows(rt, block, numbers)?;
-    from_grid(rt, block, numbers)?;
-    from_calls(rt, block, numbers)?;
-    words::end(rt)
+    edges_by(rt, "arch", |steps, ends| {
+        arch::build_all(block, numbers, steps, ends)
+    })?;
+    edges_by(rt, "rows", |steps, ends| {
+        rows::build_all(block, numbers, steps, ends)
+    })?;
+    edges_by(rt, "grid", |steps, ends| {
+        grid::build_all(block, numbers, steps, ends)
+    })?;
+    edges_by(rt, "calls", |steps, ends| {
+        Some(calls::build_all(block, numbers, steps, ends))
+    })?;
+    println!(rt)
 }
 
 // The count by each engine.
 pub(crate) fn counts(rt: &impl Print, block: &[u8]) -> io::Result<()> {
-    words::text(rt, b"arch ")?;
-    words::counting(rt, arch::count(block))?;
-    words::text(rt, b"rows ")?;
-    words::counting(rt, rows::count(block))?;
-    words::text(rt, b"grid ")?;
-    words::counting(rt, grid::count(block))?;
-    words::text(rt, b"calls ")?;
-    words::counted(rt, calls::count(block))?;
-    words::end(rt)
+    print!(rt; "arch ")?;
+    words::mine(rt, "", arch::count(block))?;
+    print!(rt; "rows ")?;
+    words::mine(rt, "", rows::count(block))?;
+    print!(rt; "grid ")?;
+    words::mine(rt, "", grid::count(block))?;
+    print!(rt; "calls ")?;
+    words::answer(rt, "", calls::count(block))?;
+    println!(rt)
 }

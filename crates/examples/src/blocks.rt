@@ -22,13 +22,14 @@ pub(crate) const TWINS: [u8; 16] = [1, 1, 1, 1, 0, 0, 0, 0, 0, 0, 0, 0, 0, 0, 0,
 pub(crate) const SEVEN: [u8; 16] = [1, 253, 1, 254, 1, 255, 1, 0, 1, 1, 1, 2, 1, 3, 0, 0];
 
 pub(crate) fn block(family: u8, n: u8, m: u8, k: u8, p: [u8; 16]) -> [u8; 20] {
-    [
-        family, n, m, k, p[0], p[1], p[2], p[3], p[4], p[5], p[6], p[7], p[8], p[9], p[10], p[11],
-        p[12], p[13], p[14], p[15],
-    ]
+    let mut block = [0; 20];
+    block[..4].copy_from_slice(&[family, n, m, k]);
+    block[4..].copy_from_slice(&p);
+    block
 }
 
 // A block of families 1 to 5.
+// kept: as in pack_examples and edgelist_cases: a library for it would have three times its lines, in a contract, a relation and what settles it.
 pub(crate) fn lettered(family: u8, n: u8, m: u8) -> [u8; 20] {
     block(family, n, m, 0, NONE)
 }

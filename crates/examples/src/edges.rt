@@ -6,10 +6,7 @@ use std::io;
 const MOST: u64 = 18446744073709551615;
 
 fn north_east(rt: &impl Print, block: &[u8]) -> io::Result<()> {
-    say::text(
-        rt,
-        b"family 1: two edges; too short, too long, another letter\n",
-    )?;
+    println!(rt; "family 1: two edges; too short, too long, another letter")?;
     say::number(rt, block, b"EEENNN")?;
     say::number(rt, block, b"NNNEEE")?;
     say::number(rt, block, b"EEENN")?;
@@ -18,24 +15,21 @@ fn north_east(rt: &impl Print, block: &[u8]) -> io::Result<()> {
 }
 
 fn dyck(rt: &impl Print, block: &[u8]) -> io::Result<()> {
-    say::text(
-        rt,
-        b"family 2: an edge; above the diagonal, the empty edge\n",
-    )?;
+    println!(rt; "family 2: an edge; above the diagonal, the empty edge")?;
     say::number(rt, block, b"EENN")?;
     say::number(rt, block, b"NEEN")?;
     say::number(rt, block, b"")
 }
 
 fn open(rt: &impl Print, block: &[u8]) -> io::Result<()> {
-    say::text(rt, b"family 6: two edges; a digit above k\n")?;
+    println!(rt; "family 6: two edges; a digit above k")?;
     say::number(rt, block, b"331")?;
     say::number(rt, block, b"322")?;
     say::number(rt, block, b"342")
 }
 
 fn fenced(rt: &impl Print, block: &[u8]) -> io::Result<()> {
-    say::text(rt, b"family 7: an edge; below the fence and back\n")?;
+    println!(rt; "family 7: an edge; below the fence and back")?;
     say::number(rt, block, b"322")?;
     say::number(rt, block, b"133")
 }
@@ -51,7 +45,7 @@ fn beyond(rt: &impl Print) -> io::Result<()> {
     let dyck = lettered(2, 36, 36);
     let one = lettered(1, 0, 0);
     let none = with_t(7, 2, 255);
-    say::text(rt, b"the last number, the first beyond, the most\n")?;
+    println!(rt; "the last number, the first beyond, the most")?;
     say::build(rt, &dyck, 11959798385860453491)?;
     say::build(rt, &dyck, 11959798385860453492)?;
     say::build(rt, &one, 0)?;
@@ -67,7 +61,7 @@ fn room(rt: &impl Print) -> io::Result<()> {
     let mut short = *b".";
     let mut just = *b".";
     let mut long = *b"....";
-    say::text(rt, b"room for none, one, four bytes\n")?;
+    println!(rt; "room for none, one, four bytes")?;
     say::build_into(rt, &one, 0, &mut none)?;
     say::build_into(rt, &delannoy, 0, &mut short)?;
     say::build_into(rt, &delannoy, 2, &mut just)?;

@@ -5,24 +5,24 @@ use std::io;
 
 // The edges of the numbers up to and including the first that is refused.
 fn table(rt: &impl Print, block: &[u8], rows: u64) -> io::Result<()> {
-    for r in 0..rows {
+    for r in 0..=rows {
         say::build(rt, block, r)?;
     }
-    say::build(rt, block, rows)
+    Ok(())
 }
 
 // All edges of a job of families 1 to 5.
-fn plain(rt: &impl Print, title: &[u8], family: u8, n: u8, m: u8, rows: u64) -> io::Result<()> {
-    say::text(rt, title)?;
+fn plain(rt: &impl Print, title: &str, family: u8, n: u8, m: u8, rows: u64) -> io::Result<()> {
+    println!(rt; "{title}")?;
     table(rt, &lettered(family, n, m), rows)
 }
 
 pub(crate) fn run(rt: &impl Print) -> io::Result<()> {
-    plain(rt, b"000, table 1\n", 1, 3, 3, 20)?;
-    plain(rt, b"000, table 2\n", 2, 3, 3, 5)?;
-    plain(rt, b"000, table 3\n", 3, 3, 2, 25)?;
-    plain(rt, b"000, table 4\n", 4, 3, 3, 22)?;
-    plain(rt, b"000, table 5\n", 5, 3, 3, 4)?;
-    say::text(rt, b"001, table 1\n")?;
+    plain(rt, "000, table 1", 1, 3, 3, 20)?;
+    plain(rt, "000, table 2", 2, 3, 3, 5)?;
+    plain(rt, "000, table 3", 3, 3, 2, 25)?;
+    plain(rt, "000, table 4", 4, 3, 3, 22)?;
+    plain(rt, "000, table 5", 5, 3, 3, 4)?;
+    println!(rt; "001, table 1")?;
     table(rt, &with_t(6, 3, 1), 6)
 }

@@ -1,77 +1,40 @@
 // Answers as lines of text.
-use job::{Built, Counted, Numbered, Sized};
+use job::Refusal;
+use lines::Line;
+use std::fmt::Display;
 use std::io;
 
-pub(crate) fn text(rt: &impl Print, t: &[u8]) -> io::Result<()> {
-    rt.write_all(t)
-}
-
-pub(crate) fn decimal(rt: &impl Print, n: u64) -> io::Result<()> {
-    print!(rt; "{n}")
-}
-
-pub(crate) fn refused(rt: &impl Print, number: u8) -> io::Result<()> {
-    text(rt, b"refused ")?;
-    decimal(rt, number as u64)
+// A value behind a word, or the refusal.
+fn answer<T: Display + Drop>(rt: &impl Print, word: &str, r: Result<T, Refusal>) -> io::Result<()> {
+    match r {
+        Ok(value) => println!(rt; "{word}{value}"),
+        Err(refusal) => println!(rt; "refused {refusal}"),
+    }
 }
 
 pub(crate) fn count(rt: &impl Print, block: &[u8]) -> io::Result<()> {
-    match calls::count(block) {
-        Counted::Count(c) => {
-            text(rt, b"count ")?;
-            decimal(rt, c)?;
-        }
-        Counted::Refused(r) => refused(rt, r)?,
-    }
-    text(rt, b"\n")
+    answer(rt, "count ", calls::count(block))
 }
 
 pub(crate) fn width(rt: &impl Print, block: &[u8]) -> io::Result<()> {
-    match calls::width(block) {
-        Sized::Width(w) => {
-            text(rt, b"width ")?;
-            decimal(rt, w as u64)?;
-        }
-        Sized::Refused(r) => refused(rt, r)?,
-    }
-    text(rt, b"\n")
-}
-
-fn number_of(rt: &impl Print, block: &[u8], edge: &[u8]) -> io::Result<()> {
-    match calls::number(block, edge) {
-        Numbered::Number(n) => decimal(rt, n),
-        Numbered::Refused(r) => refused(rt, r),
-    }
+    answer(rt, "width ", calls::width(block))
 }
 
 // The edge, and its number.
 pub(crate) fn number(rt: &impl Print, block: &[u8], edge: &[u8]) -> io::Result<()> {
-    text(rt, edge)?;
-    text(rt, b" ")?;
-    number_of(rt, block, edge)?;
-    text(rt, b"\n")
-}
-
-// The first so many bytes of the output, and their number.
-fn built(rt: &impl Print, block: &[u8], out: &[u8], length: usize) -> io::Result<()> {
-    if length <= out.len() {
-        text(rt, &out[..length])?;
-        text(rt, b" ")?;
-        number_of(rt, block, &out[..length])?;
-    }
-    Ok(())
+    rt.write_all(edge)?;
+    print!(rt; " ")?;
+    answer(rt, "", calls::number(block, edge))
 }
 
 // The number, its edge, and the number of that edge.
-pub(crate) fn build(rt: &impl Print, block: &[u8], number: u64) -> io::Result<()> {
-    let mut out = [0u8; lines::Line::LONGEST];
-    decimal(rt, number)?;
-    text(rt, b" ")?;
-    match calls::build(block, number, &mut out) {
-        Built::Length(l) => built(rt, block, &out, l)?,
-        Built::Refused(r) => refused(rt, r)?,
+pub(crate) fn build(rt: &impl Print, block: &[u8], asked: u64) -> io::Result<()> {
+    let mut out = [0u8; Line::LONGEST];
+    print!(rt; "{asked} ")?;
+    match calls::build(block, asked, &mut out) {
+        Ok(length) => number(rt, block, out.get(..length).unwrap_or_default()),
+        Err(refusal) => println!(rt; "refused {refusal}"),
     }
-    text(rt, b"\n")
 }
 
 // The edge of a number, with room for so many bytes, and the output afterwards.
@@ -82,13 +45,9 @@ pub(crate) fn build_into(
     out: &mut [u8],
 ) -> io::Result<()> {
     match calls::build(block, number, out) {
-        Built::Length(l) => {
-            text(rt, b"length ")?;
-            decimal(rt, l as u64)?;
-        }
-        Built::Refused(r) => refused(rt, r)?,
+        Ok(length) => print!(rt; "length {length} ")?,
+        Err(refusal) => print!(rt; "refused {refusal} ")?,
     }
-    text(rt, b" ")?;
-    text(rt, out)?;
-    text(rt, b"\n")
+    rt.write_all(out)?;
+    println!(rt)
 }

@@ -4,21 +4,21 @@
 --   Summing k ..                  i cells of a run of n are summed from k runs
 --   summing_none, summing_more, summing_all    none of them, one more, all
 --   CellIn, cell-read, cell-written    a cell can be read, and written; one_more: their number fits
---   Sources2, Sources4, Sources8  where all of the runs start
---   Parts4, Parts8                a sum is w, and it and the sums on the way to it fit
---   turn2, turn4, turn8           the sum of a turn is the cell's
---   below_2, below_4, below_8     the numbers of the runs
---   more-le, fewer-left, all_of   how many of a run's cells are done
---   high_le, above-fits           the bits above 2^61, and their sum
+--   past, past-more               a run's cell, and one more of these summed
+--   Sources, sources_at           where all of the runs start
+--   turn, turn-fits               the sum of a turn is the cell's, and fits
+--   all_of                        all of a run's cells are done
 use mathlib.Core.Path.{◌≡◌, refl, sym, ◌∙◌}
 use mathlib.Core.List.{List}
-use Prim.Native.Nat.{ℕ, ◌+◌, ◌-◌, ◌*◌, ◌/◌, ◌^◌, ◌≤◌, ◌<◌}
+use Prim.Native.Nat.{ℕ, ◌+◌, ◌*◌, ◌^◌, ◌≤◌, ◌<◌}
 use native.Mathlib.Omega.{arith}
 use native.Mathlib.Nat.{not-suc-le-zero}
 use lib.ListN.{length, get_or, set, length-set}
 use lib.Seq.{get_or-set_same, get_or-set_other}
 use borrow.Author.Count.{below_more}
 use Rattle.howmany.specs.Sum.{sum}
+use Rattle.howmany.proofs.Sums.{sum_cong, sum_mono}
+use Rattle.tables.proofs.Laws.{sum_more}
 use Rattle.tables.specs.Cells.{source_of, col_of, Run, Column}
 
 -- run j of those that a run of n cells is summed from
@@ -87,77 +87,29 @@ module _ {k : ℕ} {val₀ sa off : List ℕ} {x d n : ℕ} {val : List ℕ} {i 
       bytes = su.bytes;
     }
 
-abbrev pub Sources2 : List ℕ → List ℕ → ℕ → ℕ → ℕ → ℕ → ℕ → Type 0
-Sources2 sa off x d n s0 s1 = Source sa off x d n 0 s0 × Source sa off x d n 1 s1
+-- what column i of the runs that begin at these places says
+abbrev pub past : List ℕ → List ℕ → ℕ → ℕ → ℕ
+past val from i j = get_or val (get_or from j 0 + i) 0
 
-abbrev pub Sources4 : List ℕ → List ℕ → ℕ → ℕ → ℕ → ℕ → ℕ → ℕ → ℕ → Type 0
-Sources4 sa off x d n s0 s1 s2 s3 = Source sa off x d n 0 s0 × Source sa off x d n 1 s1 × Source sa off x d n 2 s2 × Source sa off x d n 3 s3
+-- one term more of a sum that fits
+pub past-more : (f : ℕ → ℕ) {k i : ℕ} → i < k → sum f k < 2 ^ 64 → {acc : ℕ} → acc ≡ sum f i → (acc + f i ≡ sum f (i + 1)) × (acc + f i < 2 ^ 64)
+past-more f {k} {i} l h e = let s = sum_more f i in (omega arith, omega (arith, sum_mono f (i + 1) k (omega arith)))
 
-abbrev pub Sources8 : List ℕ → List ℕ → ℕ → ℕ → ℕ → ℕ → ℕ → ℕ → ℕ → ℕ → ℕ → ℕ → ℕ → Type 0
-Sources8 sa off x d n s0 s1 s2 s3 s4 s5 s6 s7 = Source sa off x d n 0 s0 × Source sa off x d n 1 s1 × Source sa off x d n 2 s2 × Source sa off x d n 3 s3 × Source sa off x d n 4 s4 × Source sa off x d n 5 s5 × Source sa off x d n 6 s6 × Source sa off x d n 7 s7
+abbrev pub Sources : ℕ → List ℕ → List ℕ → ℕ → ℕ → ℕ → List ℕ → Type 0
+Sources k sa off x d n from = (j : ℕ) → j < k → Source sa off x d n j (get_or from j 0)
 
--- the sums on the way fit where the whole does
-pub record Parts4 (a b c d w : ℕ) : Type 0 where
-  pub is : a + b + c + d ≡ w
-  pub two : a + b < 2 ^ 64
-  pub three : a + b + c < 2 ^ 64
-  pub four : a + b + c + d < 2 ^ 64
+pub sources_at : {k : ℕ} {val sa off : List ℕ} {x d n : ℕ} (from : List ℕ) → Run k val sa off x d n → ((j : ℕ) → j < k → get_or from j 0 ≡ source_of sa off x d j) → Sources k sa off x d n from
+sources_at from ru is j l = source_at ru j l (is j l)
 
-parts4 : (a b c d w : ℕ) → a + b + c + d ≡ w → w < 2 ^ 64 → Parts4 a b c d w
-parts4 a b c d w q l = record { is = q; two = omega arith; three = omega arith; four = omega arith }
+module _ {k : ℕ} {val₀ val sa off : List ℕ} {x d n i : ℕ} (from : List ℕ) (su : Summing k val₀ sa off x d n val i) (l : i < n) (so : Sources k sa off x d n from) where
+  turn-is : sum (past val from i) k ≡ col_of k val₀ sa off x d i
+  turn-is = sum_cong (past val from i) (λ j. get_or val₀ (source_of sa off x d j + i) 0) k (λ j h. sym (term su l (so j h)))
 
-pub record Parts8 (a b c d e f g h w : ℕ) : Type 0 where
-  pub is : a + b + c + d + e + f + g + h ≡ w
-  pub two : a + b < 2 ^ 64
-  pub three : a + b + c < 2 ^ 64
-  pub four : a + b + c + d < 2 ^ 64
-  pub five : a + b + c + d + e < 2 ^ 64
-  pub six : a + b + c + d + e + f < 2 ^ 64
-  pub seven : a + b + c + d + e + f + g < 2 ^ 64
-  pub eight : a + b + c + d + e + f + g + h < 2 ^ 64
+  pub turn-fits : sum (past val from i) k < 2 ^ 64
+  turn-fits = omega (arith, turn-is, su.run.fits i l)
 
-parts8 : (a b c d e f g h w : ℕ) → a + b + c + d + e + f + g + h ≡ w → w < 2 ^ 64 → Parts8 a b c d e f g h w
-parts8 a b c d e f g h w q l = record { is = q; two = omega arith; three = omega arith; four = omega arith; five = omega arith; six = omega arith; seven = omega arith; eight = omega arith }
-
-pub turn2 : {val₀ val sa off : List ℕ} {x d n i s0 s1 : ℕ} → Summing 2 val₀ sa off x d n val i → i < n → Sources2 sa off x d n s0 s1
-    → (get_or val (s0 + i) 0 + get_or val (s1 + i) 0 ≡ col_of 2 val₀ sa off x d i) × (get_or val (s0 + i) 0 + get_or val (s1 + i) 0 < 2 ^ 64)
-unfolding sum
-turn2 su l so = (omega (arith, term su l so.0, term su l so.1), omega (arith, term su l so.0, term su l so.1, su.run.fits _ l))
-
-pub turn4 : {val₀ val sa off : List ℕ} {x d n i s0 s1 s2 s3 : ℕ} → Summing 4 val₀ sa off x d n val i → i < n → Sources4 sa off x d n s0 s1 s2 s3
-    → Parts4 (get_or val (s0 + i) 0) (get_or val (s1 + i) 0) (get_or val (s2 + i) 0) (get_or val (s3 + i) 0) (col_of 4 val₀ sa off x d i)
-unfolding sum
-turn4 {val₀} {val} {sa} {off} {x} {d} {n} {i} {s0} {s1} {s2} {s3} su l so =
-    parts4 (get_or val (s0 + i) 0) (get_or val (s1 + i) 0) (get_or val (s2 + i) 0) (get_or val (s3 + i) 0) (col_of 4 val₀ sa off x d i)
-    (omega (arith, term su l so.0, term su l so.1, term su l so.2, term su l so.3)) (su.run.fits i l)
-
-pub turn8 : {val₀ val sa off : List ℕ} {x d n i s0 s1 s2 s3 s4 s5 s6 s7 : ℕ} → Summing 8 val₀ sa off x d n val i → i < n → Sources8 sa off x d n s0 s1 s2 s3 s4 s5 s6 s7
-    → Parts8 (get_or val (s0 + i) 0) (get_or val (s1 + i) 0) (get_or val (s2 + i) 0) (get_or val (s3 + i) 0) (get_or val (s4 + i) 0) (get_or val (s5 + i) 0) (get_or val (s6 + i) 0) (get_or val (s7 + i) 0) (col_of 8 val₀ sa off x d i)
-unfolding sum
-turn8 {val₀} {val} {sa} {off} {x} {d} {n} {i} {s0} {s1} {s2} {s3} {s4} {s5} {s6} {s7} su l so =
-    parts8 (get_or val (s0 + i) 0) (get_or val (s1 + i) 0) (get_or val (s2 + i) 0) (get_or val (s3 + i) 0) (get_or val (s4 + i) 0) (get_or val (s5 + i) 0) (get_or val (s6 + i) 0) (get_or val (s7 + i) 0) (col_of 8 val₀ sa off x d i)
-    (omega (arith, term su l so.0, term su l so.1, term su l so.2, term su l so.3, term su l so.4, term su l so.5, term su l so.6, term su l so.7)) (su.run.fits i l)
-
-pub below_2 : (0 < 2) × (1 < 2)
-below_2 = (omega arith, omega arith)
-
-pub below_4 : (0 < 4) × (1 < 4) × (2 < 4) × (3 < 4)
-below_4 = (omega arith, omega arith, omega arith, omega arith)
-
-pub below_8 : (0 < 8) × (1 < 8) × (2 < 8) × (3 < 8) × (4 < 8) × (5 < 8) × (6 < 8) × (7 < 8)
-below_8 = (omega arith, omega arith, omega arith, omega arith, omega arith, omega arith, omega arith, omega arith)
-
-pub more-le : (i n : ℕ) → i < n → i + 1 ≤ n
-more-le i n h = omega arith
-
-pub fewer-left : (i n : ℕ) → i < n → n - (i + 1) < n - i
-fewer-left i n h = omega arith
+  pub turn : {v : ℕ} → v ≡ sum (past val from i) k → v ≡ col_of k val₀ sa off x d i
+  turn e = e ∙ turn-is
 
 pub all_of : (i n : ℕ) → i ≤ n → n ≤ i → i ≡ n
 all_of i n l h = omega arith
-
-pub high_le : (v : ℕ) → v < 2 ^ 64 → v / 2305843009213693952 ≤ 7
-high_le v l = omega arith
-
-pub above-fits : (a h i : ℕ) → a ≤ 7 * i → h ≤ 7 → i < 2305843009213693952 → a + h < 2 ^ 64
-above-fits a h i l m n = omega arith

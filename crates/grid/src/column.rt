@@ -1,98 +1,52 @@
 // A column of the table summed without a test. Cell (x, y) stands at (x + 1) * stride + deep + y: below each column deep zeros, before all a column of zeros.
-ghost use Rattle.std.specs.Prelude.{◌≡◌, true, ℕ, ◌+◌, ◌≤◌, ◌<◌, length, get_or};
+ghost use Rattle.std.specs.Prelude.{◌≡◌, true, ℕ, ◌+◌, ◌^◌, ◌≤◌, ◌<◌, length, get_or};
+ghost use Rattle.howmany.specs.Sum.{sum};
 ghost use Rattle.tables.specs.Cells.{source_of, Run, Column};
 
-use job::Job;
+use crate::plan::Grid;
 
-pub(crate) fn source(
-    sa: &[usize; Job::STEPS],
-    off: &[usize; Job::STEPS],
-    i: usize,
-    x: usize,
-    p: usize,
-) -> usize
+pub(crate) fn source(g: &Grid, i: usize, x: usize, p: usize) -> usize
     requires i_bound { i < 8 }
-    requires i_bound_2 { get_or sa.now i 0 ≤ x → get_or off.now i 0 ≤ p }
-    ensures { result ≡ source_of sa.now off.now x p i }
+    requires i_bound_2 { get_or g.now.sa i 0 ≤ x → get_or g.now.off i 0 ≤ p }
+    ensures { result ≡ source_of g.now.sa g.now.off x p i }
 {
-    if x < sa[i] { 0 } else { p - off[i] }
+    if x < g.sa[i] { 0 } else { p - g.off[i] }
 }
 
-// Cells d to d + n, column x: each the sum of what the eight steps bring.
-pub(crate) fn column8(
-    val: &mut [u64],
-    sa: &[usize; Job::STEPS],
-    off: &[usize; Job::STEPS],
-    x: usize,
-    d: usize,
-    n: usize,
-)
-    requires { Run 8 val.old sa.now off.now x d n }
-    ensures { Column 8 val.old val.new sa.now off.now x d n }
+// Where each of the first K steps finds what it brings to cell p of column x.
+fn sources<const K: usize>(g: &Grid, x: usize, p: usize) -> [usize; K]
+    requires few { K ≤ 8 }
+    requires back { (i : ℕ) → i < K → get_or g.now.sa i 0 ≤ x → get_or g.now.off i 0 ≤ p }
+    ensures { (i : ℕ) → i < K → get_or result i 0 ≡ source_of g.now.sa g.now.off x p i }
 {
-    let s0 = source(sa, off, 0, x, d);
-    let s1 = source(sa, off, 1, x, d);
-    let s2 = source(sa, off, 2, x, d);
-    let s3 = source(sa, off, 3, x, d);
-    let s4 = source(sa, off, 4, x, d);
-    let s5 = source(sa, off, 5, x, d);
-    let s6 = source(sa, off, 6, x, d);
-    let s7 = source(sa, off, 7, x, d);
-    let mut i = 0;
-    while i < n {
-        val[d + i] = val[s0 + i]
-            + val[s1 + i]
-            + val[s2 + i]
-            + val[s3 + i]
-            + val[s4 + i]
-            + val[s5 + i]
-            + val[s6 + i]
-            + val[s7 + i];
-        i += 1;
+    let mut from = [0usize; K];
+    for i in 0..K {
+        from[i] = source(g, i, x, p);
     }
+    from
 }
 
-// The same where only the first four steps are there.
-pub(crate) fn column4(
-    val: &mut [u64],
-    sa: &[usize; Job::STEPS],
-    off: &[usize; Job::STEPS],
-    x: usize,
-    d: usize,
-    n: usize,
-)
-    requires { Run 4 val.old sa.now off.now x d n }
-    ensures { Column 4 val.old val.new sa.now off.now x d n }
+// The sum of the cells i past those.
+fn sum_past<const K: usize>(val: &[u64], from: &[usize; K], i: usize) -> u64
+    requires inside { (j : ℕ) → j < K → get_or from.now j 0 + i < length val.now }
+    requires fits { sum (λ j. get_or val.now (get_or from.now j 0 + i) 0) K < 2 ^ 64 }
+    ensures { result ≡ sum (λ j. get_or val.now (get_or from.now j 0 + i) 0) K }
 {
-    let s0 = source(sa, off, 0, x, d);
-    let s1 = source(sa, off, 1, x, d);
-    let s2 = source(sa, off, 2, x, d);
-    let s3 = source(sa, off, 3, x, d);
-    let mut i = 0;
-    while i < n {
-        val[d + i] = val[s0 + i] + val[s1 + i] + val[s2 + i] + val[s3 + i];
-        i += 1;
+    let mut acc: u64 = 0;
+    for j in 0..K {
+        acc += val[from[j] + i];
     }
+    acc
 }
 
-// The same where only the first two are.
-pub(crate) fn column2(
-    val: &mut [u64],
-    sa: &[usize; Job::STEPS],
-    off: &[usize; Job::STEPS],
-    x: usize,
-    d: usize,
-    n: usize,
-)
-    requires { Run 2 val.old sa.now off.now x d n }
-    ensures { Column 2 val.old val.new sa.now off.now x d n }
+// Cells d to d + n, column x: each the sum of what the first K steps bring.
+pub(crate) fn column<const K: usize>(val: &mut [u64], g: &Grid, x: usize, d: usize, n: usize)
+    requires { (K ≤ 8) × Run K val.old g.now.sa g.now.off x d n }
+    ensures { Column K val.old val.new g.now.sa g.now.off x d n }
 {
-    let s0 = source(sa, off, 0, x, d);
-    let s1 = source(sa, off, 1, x, d);
-    let mut i = 0;
-    while i < n {
-        val[d + i] = val[s0 + i] + val[s1 + i];
-        i += 1;
+    let from = sources::<K>(g, x, d);
+    for i in 0..n {
+        val[d + i] = sum_past::<K>(val, &from, i);
     }
 }
 
@@ -102,10 +56,8 @@ pub(crate) fn is_small(val: &[u64], d: usize, n: usize) -> bool
     ensures { result ≡ true → (i : ℕ) → i < n → get_or val.now (d + i) 0 ≤ 2305843009213693951 }
 {
     let mut above: u64 = 0;
-    let mut i = 0;
-    while i < n {
+    for i in 0..n {
         above += val[d + i] / 2305843009213693952;
-        i += 1;
     }
     above == 0
 }

@@ -1,5 +1,5 @@
 // The heights of a column that matter: behind the wall, and such that the end can still be reached.
-ghost use Rattle.std.specs.Prelude.{◌≡◌, true, ◌+◌, ◌*◌, ◌≤◌, ◌<◌, length};
+ghost use Rattle.std.specs.Prelude.{◌≡◌, false, ◌+◌, ◌*◌, ◌≤◌, ◌<◌, length};
 ghost use Rattle.tables.specs.Form.{unwalled};
 ghost use Rattle.tables.specs.Table.{Bounded, Fence, From, Roof, To, Spans};
 
@@ -14,7 +14,7 @@ fn fence_at(f: Wall, x: usize) -> usize
         return 0;
     }
     let rise = f.slope * x;
-    if rise < f.start { 0 } else { rise - f.start }
+    rise.saturating_sub(f.start)
 }
 
 // The height y, or the highest of column x that a roof allows where that is lower.
@@ -26,7 +26,7 @@ fn roof_at(f: Wall, x: usize, y: usize) -> usize
         return y;
     }
     let roof = f.slope * x + f.start;
-    if roof < y { roof } else { y }
+    roof.min(y)
 }
 
 // A sixth of hi * x, rounded down. Where hi is a multiple of six, as it is if the steepest step goes one column, a loop over x adds and never
@@ -50,6 +50,7 @@ pub(crate) fn from_at(f: Wall, hi: usize, ex: usize, ey: usize, x: usize) -> usi
 {
     let reach = reach_of(hi, ex - x);
     let fence = fence_at(f, x);
+    // kept: as `fence.max(ey.saturating_sub(reach))` a count of family 7 takes up to 11% more instructions
     if ey <= fence + reach {
         return fence;
     }
@@ -62,77 +63,37 @@ pub(crate) fn to_at(f: Wall, hi: usize, ey: usize, x: usize) -> usize
     ensures { To f hi ey x result }
 {
     let reach = roof_at(f, x, reach_of(hi, x));
-    if reach < ey { reach + 1 } else { ey + 1 }
+    reach.min(ey) + 1
 }
 
-// The bounds of the columns 1 to ex, worked out once: from a formula the compiler would work them out anew for each of its tests.
-fn walled_spans(
-    starts: &mut [usize; 33],
-    stops: &mut [usize; 33],
-    f: Wall,
-    hi: usize,
-    ex: usize,
-    ey: usize,
-)
+// Where the heights of each column that matter begin, and end.
+#[derive(Drop)]
+pub(crate) struct Ranges {
+    pub(crate) starts: [usize; 33],
+    pub(crate) stops: [usize; 33],
+}
+
+// The ranges of the columns 1 to ex, worked out once: from a formula the compiler would work them out anew for each of its tests.
+fn set_ranges(ranges: &mut Ranges, f: Wall, hi: usize, ex: usize, ey: usize)
     requires bounded { Bounded f × (hi ≤ 1000) × (ex ≤ 32) × (ey ≤ 1000) }
-    requires ex_in_bounds { (ex < length starts.old) × (ex < length stops.old) }
-    ensures { Spans f hi ex ey starts.new stops.new (ex + 1) }
+    requires room { (length ranges.old.starts ≡ 33) × (length ranges.old.stops ≡ 33) }
+    ensures { Spans f hi ex ey ranges.new.starts ranges.new.stops (ex + 1) }
 {
-    let mut x = 1;
-    while x <= ex {
-        starts[x] = from_at(f, hi, ex, ey, x);
-        stops[x] = to_at(f, hi, ey, x);
-        x += 1;
+    for x in 1..ex + 1 {
+        ranges.starts[x] = from_at(f, hi, ex, ey, x);
+        ranges.stops[x] = to_at(f, hi, ey, x);
     }
 }
 
-// The same where there is no wall: the compiler leaves out what it would take from a height.
-fn open_spans(starts: &mut [usize; 33], stops: &mut [usize; 33], hi: usize, ex: usize, ey: usize)
-    requires hi_bound { (hi ≤ 1000) × (ex ≤ 32) × (ey ≤ 1000) }
-    requires ex_in_bounds { (ex < length starts.old) × (ex < length stops.old) }
-    ensures { Spans unwalled hi ex ey starts.new stops.new (ex + 1) }
+// The ranges of the columns 1 to ex. They are set in place: a loop that fills what it returns isn't split by whether the wall is a roof.
+pub(crate) fn ranges_of(f: Wall, hi: usize, ex: usize, ey: usize) -> Ranges
+    requires { Bounded f × (hi ≤ 1000) × (ex ≤ 32) × (ey ≤ 1000) }
+    ensures { Spans f hi ex ey result.starts result.stops (ex + 1) }
 {
-    let mut x = 1;
-    while x <= ex {
-        let none = Wall {
-            roof: false,
-            slope: 0,
-            start: 0,
-        };
-        starts[x] = from_at(none, hi, ex, ey, x);
-        stops[x] = to_at(none, hi, ey, x);
-        x += 1;
-    }
-}
-
-fn is_open(f: Wall) -> bool
-    ensures { result ≡ true → f ≡ unwalled }
-{
-    if f.roof {
-        return false;
-    }
-    if f.slope != 0 {
-        return false;
-    }
-    f.start == 0
-}
-
-// The bounds of the columns 1 to ex.
-pub(crate) fn spans(
-    starts: &mut [usize; 33],
-    stops: &mut [usize; 33],
-    f: Wall,
-    hi: usize,
-    ex: usize,
-    ey: usize,
-)
-    requires bounded { Bounded f × (hi ≤ 1000) × (ex ≤ 32) × (ey ≤ 1000) }
-    requires ex_in_bounds { (ex < length starts.old) × (ex < length stops.old) }
-    ensures { Spans f hi ex ey starts.new stops.new (ex + 1) }
-{
-    if is_open(f) {
-        open_spans(starts, stops, hi, ex, ey);
-        return;
-    }
-    walled_spans(starts, stops, f, hi, ex, ey);
+    let mut ranges = Ranges {
+        starts: [0; 33],
+        stops: [0; 33],
+    };
+    set_ranges(&mut ranges, f, hi, ex, ey);
+    ranges
 }

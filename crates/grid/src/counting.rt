@@ -2,75 +2,51 @@
 // small one.
 ghost use Rattle.std.specs.Prelude.{◌≡◌, ◌≤◌};
 ghost use Rattle.tables.specs.Calls.{Countable, CountsAs};
-ghost use Rattle.tables.specs.Plans.{Narrow, Planned, PreparedFor, count_for};
+ghost use Rattle.tables.specs.Plans.{Narrow, count_for};
+ghost use Rattle.grid.specs.Grids.{LaidOut, PreparedBy};
 
-use crate::plan::{cells_of, offsets, plan_of};
+use crate::plan::{Grid, cells_of, grid_of, plan_of};
 use crate::table::fill;
-use job::{Counted, Job};
-use tables::{Plan, Shape, Tally};
+use job::Refusal;
+use tables::{Plan, Shape};
 
-fn count_small(
-    sa: &[usize; Job::STEPS],
-    sc: &[usize; Job::STEPS],
-    off: &[usize; Job::STEPS],
-    p: Plan,
-    cells: usize,
-) -> Tally
-    requires { PreparedFor p sa.now sc.now off.now cells × (cells ≤ 1280) × Narrow p }
-    ensures { result ≡ count_for p sa.now sc.now }
+// How many walks lead to the plan's end, by a table of that many cells.
+fn count_in<const CELLS: usize>(g: &Grid, p: Plan) -> Option<u64>
+    requires { PreparedBy p g.now CELLS × (CELLS ≤ 3712) × Narrow p }
+    ensures { result ≡ count_for p g.now.sa g.now.sc }
 {
-    if cells <= 128 {
-        let mut val = [0u64; 128];
-        return fill(&mut val, sa, sc, off, p);
-    }
-    if cells <= 384 {
-        let mut val = [0u64; 384];
-        return fill(&mut val, sa, sc, off, p);
-    }
-    let mut val = [0u64; 1280];
-    fill(&mut val, sa, sc, off, p)
-}
-
-fn count_large(
-    sa: &[usize; Job::STEPS],
-    sc: &[usize; Job::STEPS],
-    off: &[usize; Job::STEPS],
-    p: Plan,
-) -> Tally
-    requires { PreparedFor p sa.now sc.now off.now 3712 × Narrow p }
-    ensures { result ≡ count_for p sa.now sc.now }
-{
-    let mut val = [0u64; 3712];
-    fill(&mut val, sa, sc, off, p)
+    let mut val = [0u64; CELLS];
+    fill(&mut val, g, p)
 }
 
 // How many walks lead to the plan's end.
-fn count_walks(sa: &[usize; Job::STEPS], sc: &[usize; Job::STEPS], p: Plan) -> Tally
-    requires { Planned sa.now sc.now p × Narrow p }
-    ensures { result ≡ count_for p sa.now sc.now }
+// kept: three functions choose a size like this: it is a const argument of what each calls, and no closure has const parameters to take it
+fn count_walks(g: &Grid, p: Plan) -> Option<u64>
+    requires { LaidOut p g.now }
+    ensures { result ≡ count_for p g.now.sa g.now.sc }
 {
-    let off = offsets(sa, sc, p);
     let cells = cells_of(p);
-    if cells <= 1280 {
-        return count_small(sa, sc, &off, p, cells);
+    if cells <= 128 {
+        return count_in::<128>(g, p);
     }
-    count_large(sa, sc, &off, p)
+    if cells <= 384 {
+        return count_in::<384>(g, p);
+    }
+    if cells <= 1280 {
+        return count_in::<1280>(g, p);
+    }
+    count_in::<3712>(g, p)
 }
 
-// The count of a job of the shape s, or refusal 4.
-pub(crate) fn count(s: Shape) -> Counted
-    requires { Countable s }
-    ensures { CountsAs s result }
+// The count of a job of this shape, or refusal 4.
+pub(crate) fn count(shape: Option<Shape>) -> Result<u64, Refusal>
+    requires { Countable shape }
+    ensures { CountsAs shape result }
 {
-    let state = s.state;
-    if state == 1 {
-        return Counted::Count(0);
-    }
+    let Some(s) = &shape else {
+        return Ok(0);
+    };
     let p = plan_of(s);
-    let sa = s.sa;
-    let sc = s.sc;
-    match count_walks(&sa, &sc, p) {
-        Tally::Count(c) => Counted::Count(c),
-        Tally::Over => Counted::Refused(4),
-    }
+    let g = grid_of(s, p);
+    count_walks(&g, p).ok_or(Refusal::Over)
 }

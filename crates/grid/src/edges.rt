@@ -5,12 +5,12 @@ ghost use Rattle.howmany.specs.Sum.{sum};
 ghost use Rattle.letters.specs.Letters.{glyph_of};
 ghost use Rattle.tables.specs.Edges.{brought_at, Summed, Sought};
 ghost use Rattle.tables.specs.Plans.{end_for, RankFor, edge_for};
-ghost use Rattle.tables.specs.Filling.{Legible, BySteps};
+ghost use Rattle.grid.specs.Grids.{ReadableBy};
 
-use crate::plan::{end_of, start_of};
+use crate::plan::{Grid, end_of, start_of};
 use job::{Job, Step};
 use letters::ordinal_of;
-use lines::{Line, Rank};
+use lines::Line;
 use tables::Plan;
 
 // The byte of step i.
@@ -26,8 +26,7 @@ fn back(off: &[usize; Job::STEPS], i: usize, at: usize) -> usize
     requires { i < 8 }
     ensures { result ≡ at - get_or off.now i 0 }
 {
-    let o = off[i];
-    if at < o { 0 } else { at - o }
+    at.saturating_sub(off[i])
 }
 
 // What the first l steps bring to the cell at `at`.
@@ -36,44 +35,40 @@ fn part_sum(val: &[u64], off: &[usize; Job::STEPS], at: usize, l: usize) -> u64
     ensures { result ≡ sum (brought_at off.now val.now at) l }
 {
     let mut acc: u64 = 0;
-    let mut i = 0;
-    while i < l {
+    for i in 0..l {
         let s = back(off, i, at);
         acc += val[s];
-        i += 1;
     }
     acc
 }
 
 // The number of the edge e (001, algorithm 7), or that e is none. Until that is known the sum fits all the same: with the
 // walks to the cell at `at` it is no more than the count.
-pub(crate) fn read(val: &[u64], off: &[usize; Job::STEPS], p: Plan, e: &[u8]) -> Rank
-    requires { Legible p off.now val.now }
-    ensures { BySteps p off.now val.now (λ sa sc. RankFor false p sa sc e.now result) }
+pub(crate) fn read(val: &[u64], g: &Grid, p: Plan, e: &[u8]) -> Option<u64>
+    requires { ReadableBy p g.now val.now }
+    ensures { RankFor false p g.now.sa g.now.sc e.now result }
 {
     let mut acc: u64 = 0;
     let mut at = end_of(p);
-    let mut i = e.len();
     if val[at] == 0 {
-        return Rank::NoEdge; // no walk leads to the end
+        return None; // no walk leads to the end
     }
-    while 0 < i {
-        i -= 1;
+    for i in (0..e.len()).rev() {
         let l = ordinal_of(false, e[i]);
         if p.k <= l {
-            return Rank::NoEdge;
+            return None;
         }
-        let from = back(off, l, at);
+        let from = back(&g.off, l, at);
         if val[from] == 0 {
-            return Rank::NoEdge; // no walk leads there
+            return None; // no walk leads there
         }
-        acc += part_sum(val, off, at, l);
+        acc += part_sum(val, &g.off, at, l);
         at = from;
     }
     if at != start_of(p) {
-        return Rank::NoEdge;
+        return None;
     }
-    Rank::At(acc)
+    Some(acc)
 }
 
 // A last step, the number of what stands before it, and the cell that it comes from.
@@ -92,8 +87,7 @@ fn seek(val: &[u64], off: &[usize; Job::STEPS], k: usize, at: usize, r: u64) -> 
     ensures { Sought (brought_at off.now val.now at) k r result.letter result.rest × (result.from ≡ at - get_or off.now result.letter 0) }
 {
     let mut left = r;
-    let mut i = 0;
-    while i < Job::STEPS {
+    for i in 0..Job::STEPS {
         let s = back(off, i, at);
         let v = val[s];
         if left < v {
@@ -104,7 +98,6 @@ fn seek(val: &[u64], off: &[usize; Job::STEPS], k: usize, at: usize, r: u64) -> 
             };
         }
         left -= v;
-        i += 1;
     }
     Pick {
         letter: 0,
@@ -114,22 +107,17 @@ fn seek(val: &[u64], off: &[usize; Job::STEPS], k: usize, at: usize, r: u64) -> 
 }
 
 // The edge of number r, at the end of buf (001, algorithm 8); the answer is where it starts.
-pub(crate) fn spell(
-    val: &[u64],
-    off: &[usize; Job::STEPS],
-    p: Plan,
-    r: u64,
-    buf: &mut [u8],
-) -> usize
-    requires { Legible p off.now val.now × (r < get_or val.now (end_for p) 0) × (length buf.old ≡ 128) }
-    ensures { (result ≤ 128) × BySteps p off.now val.now (λ sa sc. drop result buf.new ≡ edge_for false p sa sc r) }
+pub(crate) fn spell(val: &[u64], g: &Grid, p: Plan, r: u64, buf: &mut [u8]) -> usize
+    requires { ReadableBy p g.now val.now × (r < get_or val.now (end_for p) 0) × (length buf.old ≡ 128) }
+    ensures { (result ≤ 128) × drop result buf.new ≡ edge_for false p g.now.sa g.now.sc r }
 {
     let start = start_of(p);
     let mut at = end_of(p);
     let mut left = r;
     let mut s: usize = Line::LONGEST;
+    // kept: it goes from cell to cell, by as many columns as a step has
     while at != start {
-        let q = seek(val, off, p.k, at, left);
+        let q = seek(val, &g.off, p.k, at, left);
         let l = q.letter;
         left = q.rest;
         s -= 1;

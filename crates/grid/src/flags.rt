@@ -4,31 +4,27 @@ ghost use Rattle.tables.specs.Cells.{cell_at, Put};
 ghost use Rattle.tables.specs.Filling.{Parts, Totals};
 
 use crate::column::source;
+use crate::plan::Grid;
 use job::Job;
-use tables::Tally;
 
-pub(crate) fn cell(val: &[u64], ov: &[u8], i: usize) -> Tally
+pub(crate) fn cell(val: &[u64], ov: &[u8], i: usize) -> Option<u64>
     requires { (i < length val.now) × (i < length ov.now) }
     ensures { result ≡ cell_at val.now ov.now i }
 {
-    if ov[i] == 0 {
-        Tally::Count(val[i])
-    } else {
-        Tally::Over
-    }
+    if ov[i] == 0 { Some(val[i]) } else { None }
 }
 
 // Cell i says r.
-pub(crate) fn put(val: &mut [u64], ov: &mut [u8], i: usize, r: Tally)
+pub(crate) fn put(val: &mut [u64], ov: &mut [u8], i: usize, r: Option<u64>)
     requires { (i < length val.old) × (i < length ov.old) }
     ensures { Put val.old ov.old val.new ov.new i r }
 {
     match r {
-        Tally::Count(v) => {
+        Some(v) => {
             val[i] = v;
             ov[i] = 0;
         }
-        Tally::Over => {
+        None => {
             val[i] = 0;
             ov[i] = 1;
         }
@@ -36,30 +32,15 @@ pub(crate) fn put(val: &mut [u64], ov: &mut [u8], i: usize, r: Tally)
 }
 
 // What the eight steps bring to the cell at `at` of column x.
-pub(crate) fn total(
-    val: &[u64],
-    ov: &[u8],
-    sa: &[usize; Job::STEPS],
-    off: &[usize; Job::STEPS],
-    x: usize,
-    at: usize,
-) -> Tally
-    requires { Parts sa.now off.now val.now ov.now x at }
-    ensures { Totals sa.now off.now val.now ov.now x at result }
+pub(crate) fn total(val: &[u64], ov: &[u8], g: &Grid, x: usize, at: usize) -> Option<u64>
+    requires { Parts g.now.sa g.now.off val.now ov.now x at }
+    ensures { Totals g.now.sa g.now.off val.now ov.now x at result }
 {
     let mut acc: u64 = 0;
-    let mut i = 0;
-    while i < Job::STEPS {
-        let s = source(sa, off, i, x, at);
-        let a = cell(val, ov, s);
-        let Tally::Count(v) = a else {
-            return Tally::Over;
-        };
-        if 18446744073709551615 - acc < v {
-            return Tally::Over;
-        }
-        acc += v;
-        i += 1;
+    for i in 0..Job::STEPS {
+        let s = source(g, i, x, at);
+        let v = cell(val, ov, s)?;
+        acc = acc.checked_add(v)?;
     }
-    Tally::Count(acc)
+    Some(acc)
 }

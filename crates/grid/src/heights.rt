@@ -1,24 +1,11 @@
 // Steps in lower heights: how far they lie above the slope of the least steep step, or below that of the steepest.
-ghost use Rattle.std.specs.Prelude.{true, false, ◌≡◌, ◌+◌, ◌-◌, ◌*◌, ◌≤◌, T};
+ghost use Rattle.std.specs.Prelude.{true, false, ◌≡◌, ◌+◌, ◌*◌, ◌≤◌, T};
 ghost use Rattle.tables.specs.Form.{Slight};
 ghost use Rattle.tables.specs.Shapes.{Fenced};
 ghost use Rattle.tables.specs.Heights.{Lifted, Beside, Height, Bounds, Heights, Turned};
 
 use job::Job;
-use tables::Wall;
-
-fn lesser(a: usize, b: usize) -> usize
-    ensures { (result ≤ a) × (result ≤ b) }
-{
-    if a < b { a } else { b }
-}
-
-fn greater(a: usize, b: usize) -> usize
-    requires { (a ≤ 6) × (b ≤ 6) }
-    ensures { (a ≤ result) × (b ≤ result) × (result ≤ 6) }
-{
-    if a < b { b } else { a }
-}
+use tables::{Shape, Wall};
 
 // The lesser of d and the slope of a step, rounded down.
 fn gentler(d: usize, a: usize, c: usize) -> usize
@@ -26,12 +13,12 @@ fn gentler(d: usize, a: usize, c: usize) -> usize
     ensures { (result ≤ d) × (result * a ≤ c) }
 {
     if a == 1 {
-        return lesser(d, c);
+        return d.min(c);
     }
     if a == 2 {
-        return lesser(d, c / 2);
+        return d.min(c / 2);
     }
-    lesser(d, c / 3)
+    d.min(c / 3)
 }
 
 // The greater of d and the slope of a step, rounded up.
@@ -40,43 +27,34 @@ fn steeper(d: usize, a: usize, c: usize) -> usize
     ensures { (d ≤ result) × (result ≤ 6) × (c ≤ result * a) }
 {
     if a == 1 {
-        return greater(d, c);
+        return d.max(c);
     }
     if a == 2 {
-        return greater(d, (c + 1) / 2);
+        return d.max((c + 1) / 2);
     }
-    greater(d, (c + 2) / 3)
+    d.max((c + 2) / 3)
 }
 
-// The lowest slope of the first k steps, rounded down.
-pub(crate) fn lowest(sa: &[usize; Job::STEPS], sc: &[usize; Job::STEPS], k: usize) -> usize
-    requires { Lifted k sa.now sc.now }
-    ensures { Bounds false result k sa.now sc.now }
+// The lowest slope of the steps, rounded down.
+pub(crate) fn lowest(s: &Shape) -> usize
+    requires { Lifted s.now.k s.now.sa s.now.sc }
+    ensures { Bounds false result s.now.k s.now.sa s.now.sc }
 {
     let mut d: usize = 6;
-    let mut i = 0;
-    while i < k {
-        d = gentler(d, sa[i], sc[i]);
-        i += 1;
+    for i in 0..s.k {
+        d = gentler(d, s.sa[i], s.sc[i]);
     }
     d
 }
 
-// The highest, rounded up; the fence's slope f where that is higher.
-pub(crate) fn highest(
-    sa: &[usize; Job::STEPS],
-    sc: &[usize; Job::STEPS],
-    k: usize,
-    f: usize,
-) -> usize
-    requires { Lifted k sa.now sc.now × (f ≤ 3) }
-    ensures { Bounds true result k sa.now sc.now × (f ≤ result) }
+// The highest, rounded up; the slope of the shape's wall where that is higher.
+pub(crate) fn highest(s: &Shape) -> usize
+    requires { Lifted s.now.k s.now.sa s.now.sc × (s.now.wall.slope ≤ 3) }
+    ensures { Bounds true result s.now.k s.now.sa s.now.sc × (s.now.wall.slope ≤ result) }
 {
-    let mut d = f;
-    let mut i = 0;
-    while i < k {
-        d = steeper(d, sa[i], sc[i]);
-        i += 1;
+    let mut d = s.wall.slope;
+    for i in 0..s.k {
+        d = steeper(d, s.sa[i], s.sc[i]);
     }
     d
 }
@@ -92,33 +70,19 @@ pub(crate) fn height(mirrored: bool, y: usize, level: usize) -> usize
     y - level
 }
 
-// The same of each of the first k steps, from the slope d; in eight turns, which the compiler unrolls.
-pub(crate) fn heights(
-    mirrored: bool,
-    d: usize,
-    sa: &[usize; Job::STEPS],
-    sc: &[usize; Job::STEPS],
-    k: usize,
-) -> [usize; Job::STEPS]
-    requires { Lifted k sa.now sc.now × Bounds mirrored d k sa.now sc.now }
-    ensures { Heights mirrored d sa.now sc.now result k }
+// The same of each of the steps, from the slope d; in eight turns, which the compiler unrolls.
+pub(crate) fn heights(s: &Shape, mirrored: bool, d: usize) -> [usize; Job::STEPS]
+    requires { Lifted s.now.k s.now.sa s.now.sc × Bounds mirrored d s.now.k s.now.sa s.now.sc }
+    ensures { Heights mirrored d s.now.sa s.now.sc result s.now.k }
 {
     let mut up = [0usize; Job::STEPS];
-    let mut i = 0;
-    while i < Job::STEPS {
-        if i < k {
-            let level = d * sa[i];
-            up[i] = height(mirrored, sc[i], level);
+    for i in 0..Job::STEPS {
+        if i < s.k {
+            let level = d * s.sa[i];
+            up[i] = height(mirrored, s.sc[i], level);
         }
-        i += 1;
     }
     up
-}
-
-fn less(a: usize, b: usize) -> usize
-    ensures { result ≡ a - b }
-{
-    if a < b { 0 } else { a - b }
 }
 
 // The fence f seen from the slope d: one that is no steeper lies below every height, and a mirrored one is a roof.
@@ -138,7 +102,7 @@ pub(crate) fn wall(mirrored: bool, f: Wall, d: usize) -> Wall
     }
     Wall {
         roof: false,
-        slope: less(f.slope, d),
+        slope: f.slope.saturating_sub(d),
         start: f.start,
     }
 }

@@ -3,166 +3,118 @@ ghost use Rattle.std.specs.Prelude.{false, ◌≤◌, length};
 ghost use Rattle.lines.specs.Lines.{cut_from};
 ghost use Rattle.lines.specs.Ranks.{FrontIn};
 ghost use Rattle.tables.specs.Calls.{Countable, NumbersAs};
-ghost use Rattle.tables.specs.Plans.{Planned, Narrow, PreparedFor, valid_for, rank_for, NumbersFor};
-ghost use Rattle.tables.specs.Filling.{Blank, Legible, BySteps};
+ghost use Rattle.tables.specs.Plans.{Narrow, valid_for, rank_for, NumbersFor};
+ghost use Rattle.grid.specs.Grids.{LaidOut, PreparedBy, BlankBy, ReadableBy};
 
 use crate::edges::read;
-use crate::plan::{cells_of, offsets, plan_of};
+use crate::plan::{Grid, cells_of, grid_of, plan_of};
 use crate::table::fill;
-use job::Job;
-use lines::{Rank, Ranked};
-use tables::{Plan, Shape, Tally};
+use job::Refusal;
+use tables::{Plan, Shape};
 
 // The numbers of the edges, up to the first string that is none; the answer is how many.
+// kept: a loop like it in `arch` and `rows`: of one for all, over a reader that it is lent, each call `requires` what the reader does, and no public
+// function of a library has a `requires`.
 fn number_each(
     val: &[u64],
-    off: &[usize; Job::STEPS],
+    g: &Grid,
     p: Plan,
     bytes: &[u8],
     from: usize,
     ends: &[usize],
     numbers: &mut [u64],
 ) -> usize
-    requires { Legible p off.now val.now × (length ends.now ≤ length numbers.old) }
-    ensures { BySteps p off.now val.now (λ sa sc. FrontIn (valid_for false p sa sc) (rank_for false p sa sc) (cut_from from ends.now bytes.now) numbers.old numbers.new result) }
+    requires { ReadableBy p g.now val.now × (length ends.now ≤ length numbers.old) }
+    ensures { FrontIn (valid_for false p g.now.sa g.now.sc) (rank_for false p g.now.sa g.now.sc) (cut_from from ends.now bytes.now) numbers.old numbers.new result }
 {
     let mut at = from;
-    let mut i: usize = 0;
-    while i < ends.len() {
-        let end = ends[i];
-        let Rank::At(r) = read(val, off, p, lines::part(bytes, at, end)) else {
+    for (i, &end) in ends.iter().enumerate() {
+        let Some(r) = read(val, g, p, lines::part(bytes, at, end)) else {
             return i;
         };
         numbers[i] = r;
         at = end;
-        i += 1;
     }
-    i
+    ends.len()
 }
 
 // The numbers of the edges over a table that is still blank, or refusal 4.
-fn number_in(
+// kept: bytes, from and ends come from the public call, and only `number_each` looks into them: a struct would be made to be taken apart
+fn number_over(
     val: &mut [u64],
-    sa: &[usize; Job::STEPS],
-    sc: &[usize; Job::STEPS],
-    off: &[usize; Job::STEPS],
+    g: &Grid,
     p: Plan,
     bytes: &[u8],
     from: usize,
     ends: &[usize],
     numbers: &mut [u64],
-) -> Ranked
-    requires { Blank p sa.now sc.now off.now val.old × Narrow p × (length ends.now ≤ length numbers.old) }
-    ensures { NumbersFor false p sa.now sc.now (cut_from from ends.now bytes.now) numbers.old numbers.new result }
+) -> Result<usize, Refusal>
+    requires { BlankBy p g.now val.old × Narrow p × (length ends.now ≤ length numbers.old) }
+    ensures { NumbersFor false p g.now.sa g.now.sc (cut_from from ends.now bytes.now) numbers.old numbers.new result }
 {
-    if let Tally::Over = fill(val, sa, sc, off, p) {
-        return Ranked::Refused(4);
-    }
-    Ranked::Upto(number_each(val, off, p, bytes, from, ends, numbers))
+    fill(val, g, p).ok_or(Refusal::Over)?;
+    Ok(number_each(val, g, p, bytes, from, ends, numbers))
 }
 
-// The numbers of the edges, in a table of the smallest of three sizes that has room.
-fn number_small(
-    sa: &[usize; Job::STEPS],
-    sc: &[usize; Job::STEPS],
-    off: &[usize; Job::STEPS],
+// The numbers of the edges, in a table of that many cells.
+fn number_in<const CELLS: usize>(
+    g: &Grid,
     p: Plan,
-    cells: usize,
     bytes: &[u8],
     from: usize,
     ends: &[usize],
     numbers: &mut [u64],
-) -> Ranked
-    requires { PreparedFor p sa.now sc.now off.now cells × (cells ≤ 1280) × Narrow p × (length ends.now ≤ length numbers.old) }
-    ensures { NumbersFor false p sa.now sc.now (cut_from from ends.now bytes.now) numbers.old numbers.new result }
+) -> Result<usize, Refusal>
+    requires { PreparedBy p g.now CELLS × (CELLS ≤ 3712) × Narrow p × (length ends.now ≤ length numbers.old) }
+    ensures { NumbersFor false p g.now.sa g.now.sc (cut_from from ends.now bytes.now) numbers.old numbers.new result }
 {
+    let mut val = [0u64; CELLS];
+    number_over(&mut val, g, p, bytes, from, ends, numbers)
+}
+
+// The numbers of the edges, in a table of the smallest of five sizes that has room.
+fn number_planned(
+    g: &Grid,
+    p: Plan,
+    bytes: &[u8],
+    from: usize,
+    ends: &[usize],
+    numbers: &mut [u64],
+) -> Result<usize, Refusal>
+    requires { LaidOut p g.now × (length ends.now ≤ length numbers.old) }
+    ensures { NumbersFor false p g.now.sa g.now.sc (cut_from from ends.now bytes.now) numbers.old numbers.new result }
+{
+    let cells = cells_of(p);
     if cells <= 128 {
-        let mut val = [0u64; 128];
-        return number_in(&mut val, sa, sc, off, p, bytes, from, ends, numbers);
+        return number_in::<128>(g, p, bytes, from, ends, numbers);
     }
     if cells <= 384 {
-        let mut val = [0u64; 384];
-        return number_in(&mut val, sa, sc, off, p, bytes, from, ends, numbers);
+        return number_in::<384>(g, p, bytes, from, ends, numbers);
     }
-    let mut val = [0u64; 1280];
-    number_in(&mut val, sa, sc, off, p, bytes, from, ends, numbers)
-}
-
-fn number_medium(
-    sa: &[usize; Job::STEPS],
-    sc: &[usize; Job::STEPS],
-    off: &[usize; Job::STEPS],
-    p: Plan,
-    bytes: &[u8],
-    from: usize,
-    ends: &[usize],
-    numbers: &mut [u64],
-) -> Ranked
-    requires { PreparedFor p sa.now sc.now off.now 2496 × Narrow p × (length ends.now ≤ length numbers.old) }
-    ensures { NumbersFor false p sa.now sc.now (cut_from from ends.now bytes.now) numbers.old numbers.new result }
-{
-    let mut val = [0u64; 2496];
-    number_in(&mut val, sa, sc, off, p, bytes, from, ends, numbers)
-}
-
-fn number_large(
-    sa: &[usize; Job::STEPS],
-    sc: &[usize; Job::STEPS],
-    off: &[usize; Job::STEPS],
-    p: Plan,
-    bytes: &[u8],
-    from: usize,
-    ends: &[usize],
-    numbers: &mut [u64],
-) -> Ranked
-    requires { PreparedFor p sa.now sc.now off.now 3712 × Narrow p × (length ends.now ≤ length numbers.old) }
-    ensures { NumbersFor false p sa.now sc.now (cut_from from ends.now bytes.now) numbers.old numbers.new result }
-{
-    let mut val = [0u64; 3712];
-    number_in(&mut val, sa, sc, off, p, bytes, from, ends, numbers)
-}
-
-// The numbers of the edges by a plan, in a table of the smallest size that has room.
-fn number_planned(
-    sa: &[usize; Job::STEPS],
-    sc: &[usize; Job::STEPS],
-    p: Plan,
-    bytes: &[u8],
-    from: usize,
-    ends: &[usize],
-    numbers: &mut [u64],
-) -> Ranked
-    requires { Planned sa.now sc.now p × Narrow p × (length ends.now ≤ length numbers.old) }
-    ensures { NumbersFor false p sa.now sc.now (cut_from from ends.now bytes.now) numbers.old numbers.new result }
-{
-    let off = offsets(sa, sc, p);
-    let cells = cells_of(p);
     if cells <= 1280 {
-        return number_small(sa, sc, &off, p, cells, bytes, from, ends, numbers);
+        return number_in::<1280>(g, p, bytes, from, ends, numbers);
     }
     if cells <= 2496 {
-        return number_medium(sa, sc, &off, p, bytes, from, ends, numbers);
+        return number_in::<2496>(g, p, bytes, from, ends, numbers);
     }
-    number_large(sa, sc, &off, p, bytes, from, ends, numbers)
+    number_in::<3712>(g, p, bytes, from, ends, numbers)
 }
 
-// The numbers of the edges of a job of the shape s, up to the first string that is none, or refusal 4.
+// The numbers of the edges of a job of this shape, up to the first string that is none, or refusal 4.
 pub(crate) fn number_edges(
-    s: Shape,
+    shape: Option<Shape>,
     bytes: &[u8],
     from: usize,
     ends: &[usize],
     numbers: &mut [u64],
-) -> Ranked
-    requires { Countable s × (length ends.now ≤ length numbers.old) }
-    ensures { NumbersAs s (cut_from from ends.now bytes.now) numbers.old numbers.new result }
+) -> Result<usize, Refusal>
+    requires { Countable shape × (length ends.now ≤ length numbers.old) }
+    ensures { NumbersAs shape (cut_from from ends.now bytes.now) numbers.old numbers.new result }
 {
-    let state = s.state;
-    if state == 1 {
-        return Ranked::Upto(0);
-    }
+    let Some(s) = &shape else {
+        return Ok(0);
+    };
     let p = plan_of(s);
-    let sa = s.sa;
-    let sc = s.sc;
-    number_planned(&sa, &sc, p, bytes, from, ends, numbers)
+    let g = grid_of(s, p);
+    number_planned(&g, p, bytes, from, ends, numbers)
 }

@@ -1,18 +1,18 @@
 -- Laws of a block's tests, place by place, for the loops that make them. Assumes nothing.
 --
---   zeros-more, zeros_not, zeros-end       one byte more of `zeros`
---   used-next, used-end                    the used pairs from a place on
+--   used-next, used-length                 the used pairs from a place on, and how many
 --   signed_is, signed-one                  a byte as a signed number, and raised
 --   between_is, between-zero, eq_height    the tests of signed numbers on raised ones
---   small-next, small-end                  one pair more of `small`; small_range: each pair then
---   in_more, in_end                        one pair more of `is_in`
---   twins-next, twins-end                  one pair more of `twins`
+--   small-next                             one pair more of `small`; small_range: each pair then
+--   pairs_split, pairs_none, used_in       pairs that are lent as their bytes: the first, none, and the used ones of a block
+--   small_more, in_more, twins_more        one pair more of `small`, `is_in` and `twins`; small_none, in_none, twins_none: no pair
+--   each_zero                              the zeros of a list, by a test of each
 --   rest, zeros-past                       the end of a block; no_family: an empty one
 --   formed-is, lettered-is, directed-is, sized-is    the tests of form and size on raised numbers
-use Rattle.std.proofs.Common.{◌≡◌, ℕ, zero, suc, ◌+◌, ◌-◌, ◌*◌, ◌%◌, ◌<◌, ◌≤◌, Bool, true, false, not, ◌&&◌, ◌||◌, T, eqb, ltb, leb, List, [], ◌∷◌, length, get_or, take, drop, ℤ, pos, negsuc, sym, refl, ap, ◌∙◌, subst, ap₂, add-one, arith, length-drop, drop_of_length-le, length-take, get_or-drop, take_all, drop-cons, get_or-take, le-ltb, lt-ltb, eq-eqb, ne_eqb, le-leb}
+use Rattle.std.proofs.Common.{◌≡◌, ℕ, zero, suc, ◌+◌, ◌-◌, ◌*◌, ◌%◌, ◌<◌, ◌≤◌, Bool, true, false, not, ◌&&◌, ◌||◌, ◌==◌, T, eqb, ltb, leb, List, [], ◌∷◌, length, get_or, take, drop, ℤ, pos, negsuc, sym, refl, ap, ◌∙◌, subst, ap₂, add-one, arith, length-drop, drop_of_length-le, length-take, get_or-drop, take_all, drop-cons, get_or-take, le-ltb, lt-ltb, eq-eqb, ne_eqb, le-leb}
+use Rattle.std.specs.List.{list_all}
 use native.Mathlib.Decide.{dec_lt, ℕ_discrete}
 use lib.Dec.{eqb_refl}
-use lib.Seq.{drop-length}
 use borrow.Author.Tests.{lt-leb}
 use Rattle.rules.specs.Points.{Is, leℤ, eqℤ}
 use Rattle.rules.specs.Jobs.{Pair}
@@ -21,19 +21,12 @@ use Rattle.rules.proofs.Letters.{eqℤ_eq, eqℤ_refl}
 use Rattle.rules.proofs.Signed.{is_up, is-fence}
 use Rattle.howmany.specs.Choose.{pick}
 use Rattle.howmany.proofs.Choices.{and_left, and_right, is_true, is_false}
-use Rattle.job.specs.Made.{raised, pair_of, in_range, Pairs}
+use Rattle.job.specs.Made.{raised, pair_by, pair_of, in_range, Pairs}
 
-pub zeros-more : (s : List ℕ) (i : ℕ) → i < length s → get_or s i 0 ≡ 0 → zeros (drop i s) ≡ zeros (drop (i + 1) s)
+pub each_zero : (s : List ℕ) → list_all (λ b. b == 0) s ≡ zeros s
 unfolding zeros
-zeros-more s i h e = rw (drop-cons s i 0 h, e, add-one)
-
-pub zeros_not : (s : List ℕ) (i : ℕ) → i < length s → (get_or s i 0 ≡ 0 → ⊥) → zeros (drop i s) ≡ false
-unfolding zeros
-zeros_not s i h e = ap zeros (drop-cons s i 0 h) ∙ simp (ne_eqb _ _ e)
-
-pub zeros-end : (s : List ℕ) (i : ℕ) → i ≡ length s → zeros (drop i s) ≡ true
-unfolding zeros
-zeros-end s i e = ap (λ (n : ℕ). zeros (drop n s)) e ∙ ap zeros (drop-length s)
+each_zero [] = refl
+each_zero (x ∷ s) = ap (λ t. (x == 0) && t) (each_zero s)
 
 -- ---- the used pairs
 
@@ -72,9 +65,6 @@ module _ (b : List ℕ) (k : ℕ) (p : Pairs b k) where
     where
       nil : Pair
       nil = record { a = 0; b = pos 0 }
-
-  pub used-end : (i : ℕ) → i ≡ k → drop i (used b) ≡ []
-  used-end i e = ap (λ (j : ℕ). drop j (used b)) (e ∙ sym used-length) ∙ drop-length (used b)
 
 -- ---- signed bytes, raised
 
@@ -151,10 +141,6 @@ module _ (b : List ℕ) (k : ℕ) (p : Pairs b k) where
       ∙ ap (λ (t : Bool). leb 1 x && (leb x 3 && (t && small (drop (i + 1) (used b))))) (between_is (signed y) (raised y) 2 3 (omega arith) (signed_is y h))
       ∙ and_four (leb 1 x) (leb x 3) (leb 125 (raised y)) (leb (raised y) 131) (small (drop (i + 1) (used b)))
 
-  pub small-end : (i : ℕ) → i ≡ k → small (drop i (used b)) ≡ true
-  unfolding small
-  small-end i e = ap small (used-end b k p i e)
-
   -- pairs that are small are in range, each of them
   module _ (e : small (used b) ≡ true) (bytes : (j : ℕ) → get_or b j 0 < 256) where
     both : (i : ℕ) → i < k → small (drop i (used b)) ≡ true → T (in_range (get_or b (4 + 2 * i) 0) (raised (get_or b (5 + 2 * i) 0)) && small (drop (i + 1) (used b)))
@@ -169,29 +155,61 @@ module _ (b : List ℕ) (k : ℕ) (p : Pairs b k) where
     pub small_range : (i : ℕ) → i < k → T (in_range (get_or b (4 + 2 * i) 0) (raised (get_or b (5 + 2 * i) 0)))
     small_range i l = and_left (in_range (get_or b (4 + 2 * i) 0) (raised (get_or b (5 + 2 * i) 0))) (small (drop (i + 1) (used b))) (both i l (small-from i (omega arith)))
 
-  in_next : (q : Pair) (j : ℕ) → j < k → is_in q (drop j (used b)) ≡ ((eqb q.a (get_or b (4 + 2 * j) 0) && eqℤ q.b (signed (get_or b (5 + 2 * j) 0))) || is_in q (drop (j + 1) (used b)))
-  unfolding is_in
-  in_next q j l = ap (is_in q) (used-next b k p j l)
+-- ---- the tests of pairs that are lent as their bytes
 
-  pub in_more : (i j : ℕ) → j < k → get_or b (5 + 2 * i) 0 < 256 → get_or b (5 + 2 * j) 0 < 256
-      → is_in (pair_of b i) (drop j (used b))
-      ≡ ((eqb (get_or b (4 + 2 * i) 0) (get_or b (4 + 2 * j) 0) && eqb (get_or b (5 + 2 * i) 0) (get_or b (5 + 2 * j) 0)) || is_in (pair_of b i) (drop (j + 1) (used b)))
-  in_more i j l h g =
-      in_next (pair_of b i) j l
-      ∙ ap (λ (t : Bool). (eqb (get_or b (4 + 2 * i) 0) (get_or b (4 + 2 * j) 0) && t) || is_in (pair_of b i) (drop (j + 1) (used b)))
-      (signed-one (get_or b (5 + 2 * i) 0) (get_or b (5 + 2 * j) 0) h g)
+pub pairs_split : (l : List ℕ) → 2 ≤ length l → pairs_in l ≡ pair_by (get_or l 0 0) (get_or l 1 0) ∷ pairs_in (take (length l - 2) (drop 2 l))
+unfolding pairs_in
+pairs_split [] h = absurd (omega arith)
+pairs_split (a ∷ []) h = absurd (omega arith)
+pairs_split (a ∷ b ∷ l) h =
+    ap (λ (z : List ℕ). pair_by a b ∷ pairs_in z) (sym (take_all (length (a ∷ b ∷ l) - 2) l (omega arith)))
 
-  pub in_end : (q : Pair) (j : ℕ) → j ≡ k → is_in q (drop j (used b)) ≡ false
-  unfolding is_in
-  in_end q j e = ap (is_in q) (used-end b k p j e)
+pub pairs_none : (l : List ℕ) → length l < 2 → pairs_in l ≡ []
+unfolding pairs_in
+pairs_none [] h = refl
+pairs_none (a ∷ []) h = refl
+pairs_none (a ∷ b ∷ l) h = absurd (omega arith)
 
-  pub twins-next : (i : ℕ) (t : Bool) → i < k → is_in (pair_of b i) (drop (i + 1) (used b)) ≡ t → twins (drop i (used b)) ≡ (t || twins (drop (i + 1) (used b)))
-  unfolding twins
-  twins-next i t l e = ap twins (used-next b k p i l) ∙ ap (λ (s : Bool). s || twins (drop (i + 1) (used b))) e
+pub small_more : (a b : ℕ) (ps : List Pair) → b < 256 → small (pair_by a b ∷ ps) ≡ (in_range a (raised b) && small ps)
+unfolding small
+small_more a b ps h =
+    ap (λ (t : Bool). leb 1 a && (leb a 3 && (t && small ps))) (between_is (signed b) (raised b) 2 3 (omega arith) (signed_is b h))
+    ∙ and_four (leb 1 a) (leb a 3) (leb 125 (raised b)) (leb (raised b) 131) (small ps)
 
-  pub twins-end : (i : ℕ) → i ≡ k → twins (drop i (used b)) ≡ false
-  unfolding twins
-  twins-end i e = ap twins (used-end b k p i e)
+pub small_none : small [] ≡ true
+unfolding small
+small_none = refl
+
+pub in_more : (a b c d : ℕ) (ps : List Pair) → b < 256 → d < 256 → is_in (pair_by a b) (pair_by c d ∷ ps) ≡ ((eqb a c && eqb b d) || is_in (pair_by a b) ps)
+unfolding is_in
+in_more a b c d ps h g = ap (λ (t : Bool). (eqb a c && t) || is_in (pair_by a b) ps) (signed-one b d h g)
+
+pub in_none : (q : Pair) → is_in q [] ≡ false
+unfolding is_in
+in_none q = refl
+
+pub twins_more : (q : Pair) (ps : List Pair) → twins (q ∷ ps) ≡ (is_in q ps || twins ps)
+unfolding twins
+twins_more q ps = refl
+
+pub twins_none : twins [] ≡ false
+unfolding twins
+twins_none = refl
+
+pairs_take : (l : List ℕ) (k : ℕ) → pairs_in (take (2 * k) l) ≡ take k (pairs_in l)
+unfolding pairs_in
+pairs_take l zero = refl
+pairs_take [] (suc k) = ap pairs_in (take_all (2 * suc k) [] (omega arith))
+pairs_take (a ∷ []) (suc k) = ap pairs_in (take_all (2 * suc k) (a ∷ []) (omega arith))
+pairs_take (a ∷ b ∷ l) (suc k) =
+    let e : 2 * suc k ≡ suc (suc (2 * k)) = omega arith in
+    rw e (ap (λ (z : List Pair). pair_by a b ∷ z) (pairs_take l k))
+
+-- the bytes of the used pairs
+pub used_in : (b : List ℕ) (k n : ℕ) → k ≡ get_or b 3 0 → n ≡ 2 * k → pairs_in (take n (drop 4 b)) ≡ used b
+unfolding used
+used_in b k n q e =
+    ap (λ (m : ℕ). pairs_in (take m (drop 4 b))) e ∙ pairs_take (drop 4 b) k ∙ ap (λ (m : ℕ). take m (pairs_in (drop 4 b))) q
 
 -- ---- the tests of form and size, as code makes them
 

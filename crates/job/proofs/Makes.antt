@@ -3,16 +3,16 @@
 --   whole_of, pairs_of                          a block that passes form has all its bytes; one that passes size has at most eight pairs
 --   no_twins                                    where there are no pairs, none is twice there
 --   made-form, made-size, made_twin, made-job    the answer for each way through the tests
-use Rattle.std.proofs.Common.{◌≡◌, ℕ, ◌+◌, ◌*◌, ◌≤◌, Bool, true, false, not, ◌&&◌, T, eqb, leb, List, length, get_or, drop, pos, negsuc, sym, refl, ◌∙◌, arith, eqb→eq, leb→le, drop-cons}
+use Rattle.std.proofs.Common.{◌≡◌, ℕ, ◌+◌, ◌*◌, ◌≤◌, Bool, true, false, not, ◌&&◌, T, eqb, leb, List, length, get_or, drop, pos, negsuc, sym, refl, ◌∙◌, arith, eqb→eq, leb→le, drop-cons, Ok, Err}
 use Rattle.howmany.specs.Choose.{pick}
 use Rattle.howmany.proofs.Choices.{and_left, and_right, holds}
 use Rattle.rules.specs.Refusals.{check}
 use Rattle.rules.specs.Refusals.Refusal.{form, size, twin}
 use Rattle.rules.specs.Refusals.Answer.{accepted}
-use Rattle.rules.specs.Refusals.{refusal_number}
 use Rattle.rules.specs.Blocks.{families, block_length, paired, family_of, n_of, m_of, k_of, zeros, formed, sized, sized_directed, small, used, between, twins, job_in, job_answer}
 use Rattle.rules.proofs.Families.{sized-paired}
-use Rattle.job.specs.Made.{Pairs, makes, made_of, refused_by, accepted_by}
+use Rattle.job.specs.Made.{Pairs, kind_of, held_by, makes, made_of}
+use Rattle.job.specs.declared.Refusal.TheVariants.{Form, Size, Twin}
 use Rattle.job.proofs.Blocks.{formed-is}
 
 pub whole_of : (b : List ℕ) → formed b ≡ true → length b ≡ block_length
@@ -54,17 +54,14 @@ module _ (b : List ℕ) where
   unfolding made_of job_answer
   made-is = refl
 
-  pub made-form : formed b ≡ false → refused_by 1 ≡ made_of b
-  unfolding refusal_number
+  pub made-form : formed b ≡ false → Err Form ≡ made_of b
   made-form e = sym (made-is ∙ simp e)
 
-  pub made-size : formed b ≡ true → sized b ≡ false → refused_by 2 ≡ made_of b
-  unfolding refusal_number
+  pub made-size : formed b ≡ true → sized b ≡ false → Err Size ≡ made_of b
   made-size e f = sym (made-is ∙ simp (e, f))
 
-  pub made_twin : formed b ≡ true → sized b ≡ true → twins (used b) ≡ true → refused_by 3 ≡ made_of b
-  unfolding refusal_number
+  pub made_twin : formed b ≡ true → sized b ≡ true → twins (used b) ≡ true → Err Twin ≡ made_of b
   made_twin e f g = sym (made-is ∙ simp (e, f, g))
 
-  pub made-job : formed b ≡ true → sized b ≡ true → twins (used b) ≡ false → accepted_by b ≡ made_of b
+  pub made-job : formed b ≡ true → sized b ≡ true → twins (used b) ≡ false → Ok (held_by (kind_of (job_in b)) b) ≡ made_of b
   made-job e f g = sym (made-is ∙ simp (e, f, g))

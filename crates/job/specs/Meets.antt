@@ -9,17 +9,17 @@
 --   IsFencedMeets    7
 --   IsPairedMeets    6 or 7
 --   JobOfMeets       the job of a block, or refusal 1, 2 or 3
-use Rattle.std.specs.Prelude.{◌≡◌, ℕ, Bool, List}
+use Rattle.std.specs.Prelude.{◌≡◌, ℕ, Bool, List, Result}
 use Rattle.rules.specs.Blocks.{family_of, plain, square, paired, fenced}
 use Rattle.rules.specs.Answers.{written}
 use Rattle.rules.specs.Refusals.Answer.{accepted}
 use Rattle.job.specs.Replies.{BuiltAs}
 use Rattle.job.specs.Made.{made_of}
-use Rattle.job.specs.declared.Built.{Built}
-use Rattle.job.specs.declared.Made.{Made}
+use Rattle.job.specs.declared.Job.{Job}
+use Rattle.job.specs.declared.Refusal.{Refusal}
 
 -- "7 Room: the output is shorter than this answer"
-abbrev pub PutMeets : List ℕ → List ℕ → Built → List ℕ → Type 0
+abbrev pub PutMeets : List ℕ → List ℕ → Result ℕ Refusal → List ℕ → Type 0
 PutMeets edge out r out-after = BuiltAs (written (accepted edge) out) r out-after
 
 abbrev pub WideMeets : ℕ → ℕ → Type 0
@@ -41,5 +41,5 @@ abbrev pub IsPairedMeets : ℕ → Bool → Type 0
 IsPairedMeets family r = r ≡ paired family
 
 -- "Every job is made from its block of 20 bytes"
-abbrev pub JobOfMeets : List ℕ → Made → Type 0
+abbrev pub JobOfMeets : List ℕ → Result Job Refusal → Type 0
 JobOfMeets block r = r ≡ made_of block

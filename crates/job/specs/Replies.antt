@@ -1,47 +1,64 @@
--- What each case of an answer says: document 01's refusal number, or the value.
+-- What a call answers, as the code has it: the value, or the refusal of document 01 by its name.
 --
---   Reply A        a value, or a refusal number
---   reply a        an answer of document 01 as a reply
---   count_says, width_says, number_says, build_says    the reply that each case of an enum stands for
+--   named r        a refusal of document 01, in the code
+--   meant r        the refusal that the code's stands for
+--   number_of r    "Refusal numbers"
+--   reply a        an answer of document 01, in the code
 --   BuiltAs w r after    a write's reply and the output's bytes after it
-use Rattle.std.specs.Prelude.{◌≡◌, ℕ, List}
-use Rattle.rules.specs.Refusals.{Answer, refusal_number}
+use Rattle.std.specs.Prelude.{◌≡◌, ℕ, List, Result, Ok, Err}
+use Rattle.rules.specs.Refusals as rules
+use Rattle.rules.specs.Refusals.{Answer}
+use Rattle.rules.specs.Refusals.Refusal.{form, size, twin, over, not-an-edge, beyond, room, bad-pack, no-such-edge, many, kind}
 use Rattle.rules.specs.Refusals.Answer.{accepted, refused}
 use Rattle.rules.specs.Answers.{Written}
-use Rattle.job.specs.declared.Counted.{Counted}
-use Rattle.job.specs.declared.Counted.TheVariants.{Count, Refused as CountRefused}
-use Rattle.job.specs.declared.Sized.{Sized}
-use Rattle.job.specs.declared.Sized.TheVariants.{Width, Refused as WidthRefused}
-use Rattle.job.specs.declared.Numbered.{Numbered}
-use Rattle.job.specs.declared.Numbered.TheVariants.{Number, Refused as NumberRefused}
-use Rattle.job.specs.declared.Built.{Built}
-use Rattle.job.specs.declared.Built.TheVariants.{Length, Refused as BuildRefused}
+use Rattle.job.specs.declared.Refusal.{Refusal}
+use Rattle.job.specs.declared.Refusal.TheVariants.{Form, Size, Twin, Over, NotEdge, Beyond, Room, BadPack, NoSuchEdge, Many, Kind}
 
-pub data Reply (A : Type 0) : Type 0 where
-  value : A → Reply A
-  refusal : ℕ → Reply A
+abbrev pub named : rules.Refusal → Refusal
+named form = Form
+named size = Size
+named twin = Twin
+named over = Over
+named not-an-edge = NotEdge
+named beyond = Beyond
+named room = Room
+named bad-pack = BadPack
+named no-such-edge = NoSuchEdge
+named many = Many
+named kind = Kind
 
-abbrev pub reply : {A : Type 0} → Answer A → Reply A
-reply (accepted a) = value a
-reply (refused r) = refusal (refusal_number r)
+abbrev pub meant : Refusal → rules.Refusal
+meant Form = form
+meant Size = size
+meant Twin = twin
+meant Over = over
+meant NotEdge = not-an-edge
+meant Beyond = beyond
+meant Room = room
+meant BadPack = bad-pack
+meant NoSuchEdge = no-such-edge
+meant Many = many
+meant Kind = kind
 
-abbrev pub count_says : Counted → Reply ℕ
-count_says (Count c) = value c
-count_says (CountRefused r) = refusal r
+abbrev pub number_of : Refusal → ℕ
+number_of Form = 1
+number_of Size = 2
+number_of Twin = 3
+number_of Over = 4
+number_of NotEdge = 5
+number_of Beyond = 6
+number_of Room = 7
+number_of BadPack = 8
+number_of NoSuchEdge = 9
+number_of Many = 10
+number_of Kind = 11
 
-abbrev pub width_says : Sized → Reply ℕ
-width_says (Width w) = value w
-width_says (WidthRefused r) = refusal r
-
-abbrev pub number_says : Numbered → Reply ℕ
-number_says (Number r) = value r
-number_says (NumberRefused r) = refusal r
-
-abbrev pub build_says : Built → Reply ℕ
-build_says (Length l) = value l
-build_says (BuildRefused r) = refusal r
+-- "The answer is a count or a refusal number, never both."
+abbrev pub reply : {A : Type 0} → Answer A → Result A Refusal
+reply (accepted a) = Ok a
+reply (refused r) = Err (named r)
 
 -- the answer r is that of the write w, and so is the output afterwards
-pub record BuiltAs (w : Written) (r : Built) (after : List ℕ) : Type 0 where
-  pub says : build_says r ≡ reply w.answer
+pub record BuiltAs (w : Written) (r : Result ℕ Refusal) (after : List ℕ) : Type 0 where
+  pub says : r ≡ reply w.answer
   pub output : after ≡ w.output

@@ -1,10 +1,14 @@
 // Jobs made from their block of 20 bytes (document 01, "Job block"), and the answers that every call gives.
 #![tactic(auto)]
 
-ghost use Rattle.std.specs.Prelude.{◌≡◌, ◌+◌, ◌<◌, drop};
-ghost use Rattle.rules.specs.Blocks.{zeros, formed, sized, sized_lettered, sized_directed, small, used, is_in, twins};
-ghost use Rattle.job.specs.Made.{raised, pair_of, in_range, Whole, Pairs, held_by, refused_by, accepted_by};
+ghost use Rattle.std.specs.Prelude.{◌≡◌, ◌==◌};
+ghost use Rattle.std.specs.List.{list_all};
+ghost use Rattle.rules.specs.Blocks.{formed, sized, sized_lettered, sized_directed, small, pairs_in, is_in, twins};
+ghost use Rattle.job.specs.Made.{raised, pair_by, in_range, Whole, held_by, family_at};
+ghost use Rattle.job.specs.Replies.{number_of};
 ghost use Rattle.job.specs.Meets.{PutMeets, WideMeets, FamilyOfMeets, IsPlainMeets, IsSquareMeets, IsFencedMeets, IsPairedMeets, JobOfMeets};
+
+use std::fmt;
 
 // A step's letter: `N`, `E` and `D` of families 1 to 5, and the digits `1` to `8` of families 6 and 7.
 #[derive(Drop)]
@@ -22,10 +26,42 @@ impl Step {
     pub const LAST: u8 = b'8';
 }
 
+// The families of document 01, in the order of their numbers.
+#[derive(Clone, Copy, Debug, PartialEq, Eq)]
+pub enum Family {
+    NorthEast,
+    Dyck,
+    Delannoy,
+    Schroder,
+    Motzkin,
+    Open,
+    Fenced,
+}
+
+// A block's first byte; "1 Form: .. family not 1 to 7".
+impl TryFrom<u8> for Family {
+    type Error = Refusal;
+
+    ghost try_from_gives = { λ number r. r ≡ family_at number };
+
+    fn try_from(number: u8) -> Result<Family, Refusal> {
+        match number {
+            1 => Ok(Family::NorthEast),
+            2 => Ok(Family::Dyck),
+            3 => Ok(Family::Delannoy),
+            4 => Ok(Family::Schroder),
+            5 => Ok(Family::Motzkin),
+            6 => Ok(Family::Open),
+            7 => Ok(Family::Fenced),
+            _ => Err(Refusal::Form),
+        }
+    }
+}
+
 // A job: the bytes of its block, with m and each b raised by 128, so that no number is below 0.
-#[derive(Drop)]
+#[derive(Clone, Copy, Debug)]
 pub struct Job {
-    pub family: u8,
+    pub family: Family,
     pub n: u8,
     pub m: u8,
     pub k: u8,
@@ -33,52 +69,60 @@ pub struct Job {
     pub b: [u8; Job::STEPS],
 }
 
-// A job, or the refusal number; 0 if none.
-#[derive(Drop)]
-pub struct Made {
-    pub refusal: u8,
-    pub job: Job,
+// Why a call refuses: the rows of document 01's table "Refusal numbers", in its order.
+#[derive(Clone, Copy, Debug, PartialEq, Eq)]
+pub enum Refusal {
+    Form,
+    Size,
+    Twin,
+    Over,
+    NotEdge,
+    Beyond,
+    Room,
+    BadPack,
+    NoSuchEdge,
+    Many,
+    Kind,
 }
 
-// A count, or a refusal number, never both.
-#[derive(Drop)]
-pub enum Counted {
-    Count(u64),
-    Refused(u8),
+// A refusal's number is all that C and the listing are told of it.
+impl From<Refusal> for u8 {
+    ghost from_gives = { λ refusal number. number ≡ number_of refusal };
+
+    fn from(refusal: Refusal) -> u8 {
+        match refusal {
+            Refusal::Form => 1,
+            Refusal::Size => 2,
+            Refusal::Twin => 3,
+            Refusal::Over => 4,
+            Refusal::NotEdge => 5,
+            Refusal::Beyond => 6,
+            Refusal::Room => 7,
+            Refusal::BadPack => 8,
+            Refusal::NoSuchEdge => 9,
+            Refusal::Many => 10,
+            Refusal::Kind => 11,
+        }
+    }
 }
 
-// The width of a job, or a refusal number.
-#[derive(Drop)]
-pub enum Sized {
-    Width(u8),
-    Refused(u8),
-}
-
-// The number of an edge, or a refusal number.
-#[derive(Drop)]
-pub enum Numbered {
-    Number(u64),
-    Refused(u8),
-}
-
-// The length of what was written, or a refusal number.
-#[derive(Drop)]
-pub enum Built {
-    Length(usize),
-    Refused(u8),
+impl fmt::Display for Refusal {
+    fn fmt<W: fmt::Write>(&self, f: &mut fmt::Formatter<W>) -> fmt::Result {
+        write!(f, "{}", u8::from(*self))
+    }
 }
 
 // "7 Room": an edge written to the front of the output, if it fits; nothing behind it is touched.
-pub fn put(edge: &[u8], out: &mut [u8]) -> Built
+pub fn put(edge: &[u8], out: &mut [u8]) -> Result<usize, Refusal>
     ensures { PutMeets edge.now out.old result out.new }
 {
     let room = edge.len();
     if out.len() < room {
-        return Built::Refused(7);
+        return Err(Refusal::Room);
     }
     let n = edge.len();
     out[..n].copy_from_slice(edge);
-    Built::Length(n)
+    Ok(n)
 }
 
 // A byte raised by 128: what is signed there is unsigned here.
@@ -106,6 +150,7 @@ pub fn family_of(block: &[u8]) -> u8
 }
 
 // Whether the family is 1 or 3.
+// kept: a byte, here and in the three behind, and no `Family`: it is asked of a block's first byte, whatever that is (`IsPlainMeets`).
 pub fn is_plain(family: u8) -> bool
     ensures { IsPlainMeets family result }
 {
@@ -147,16 +192,9 @@ pub fn is_paired(family: u8) -> bool
 
 // Whether every byte is zero.
 fn all_zero(s: &[u8]) -> bool
-    ensures { result ≡ zeros s.now }
+    ensures { result ≡ list_all (λ b. b == 0) s.now }
 {
-    let mut i: usize = 0;
-    while i < s.len() {
-        if s[i] != 0 {
-            return false;
-        }
-        i += 1;
-    }
-    true
+    s.iter().all(|&b| b == 0)
 }
 
 // Refusal 1 isn't given: 20 bytes, family 1 to 7, unused bytes zero.
@@ -184,21 +222,14 @@ fn is_formed(block: &[u8]) -> bool
     all_zero(&block[from..])
 }
 
-// Each used a is 1 to 3, each used b -3 to 3.
-fn is_small(block: &[u8], k: usize) -> bool
-    requires { Pairs block.now k }
-    ensures { result ≡ small (used block.now) }
+// Each pair's a is 1 to 3, its b -3 to 3.
+fn is_small(pairs: &[u8]) -> bool
+    ensures { result ≡ small (pairs_in pairs.now) }
 {
-    let mut i: usize = 0;
-    while i < k {
-        let a = block[4 + 2 * i];
-        let b = raise(block[5 + 2 * i]);
-        if !in_range(a, b) {
-            return false;
-        }
-        i += 1;
+    match pairs {
+        [a, b, rest @ ..] => in_range(*a, raise(*b)) && is_small(rest),
+        _ => true,
     }
-    true
 }
 
 // a is 1 to 3, and b, raised, is -3 to 3.
@@ -218,6 +249,7 @@ fn in_range(a: u8, b: u8) -> bool
 }
 
 // Families 1 to 5: n and m are 0 to 64, and m = n in 2, 4 and 5.
+// kept: `Whole` here and in three more contracts: a struct would have this one fact, and each byte be read through it.
 fn is_sized_lettered(block: &[u8]) -> bool
     requires { Whole block.now }
     ensures { result ≡ sized_lettered block.now }
@@ -261,7 +293,7 @@ fn is_sized_directed(block: &[u8]) -> bool
     if Job::STEPS < k {
         return false;
     }
-    is_small(block, k)
+    is_small(&block[4..4 + 2 * k])
 }
 
 // Refusal 2 isn't given: every value in its family's range, and m = n where that is asked.
@@ -275,38 +307,24 @@ fn is_sized(block: &[u8]) -> bool
     is_sized_lettered(block)
 }
 
-// Whether a later pair equals pair i.
-fn is_in(block: &[u8], k: usize, i: usize) -> bool
-    requires { Pairs block.now k × (i < k) }
-    ensures { result ≡ is_in (pair_of block.now i) (drop (i + 1) (used block.now)) }
+// Whether one of the pairs is (a,b).
+fn is_in(a: u8, b: u8, pairs: &[u8]) -> bool
+    ensures { result ≡ is_in (pair_by a b) (pairs_in pairs.now) }
 {
-    let a = block[4 + 2 * i];
-    let b = block[5 + 2 * i];
-    let mut j = i + 1;
-    while j < k {
-        if block[4 + 2 * j] == a {
-            if block[5 + 2 * j] == b {
-                return true;
-            }
-        }
-        j += 1;
+    match pairs {
+        [c, d, rest @ ..] => (a == *c && b == *d) || is_in(a, b, rest),
+        _ => false,
     }
-    false
 }
 
-// Refusal 3: two used pairs are equal.
-fn has_twins(block: &[u8], k: usize) -> bool
-    requires { Pairs block.now k }
-    ensures { result ≡ twins (used block.now) }
+// Refusal 3: two of the pairs are equal.
+fn has_twins(pairs: &[u8]) -> bool
+    ensures { result ≡ twins (pairs_in pairs.now) }
 {
-    let mut i: usize = 0;
-    while i < k {
-        if is_in(block, k, i) {
-            return true;
-        }
-        i += 1;
+    match pairs {
+        [a, b, rest @ ..] => is_in(*a, *b, rest) || has_twins(rest),
+        _ => false,
     }
-    false
 }
 
 impl Job {
@@ -336,38 +354,26 @@ impl Job {
     pub const GROUND: usize = Job::LEVEL as usize;
 
     // "Every job is made from its block of 20 bytes": the job, or refusal 1, 2 or 3.
-    pub fn of(block: &[u8]) -> Made
+    pub fn of(block: &[u8]) -> Result<Job, Refusal>
         ensures { JobOfMeets block.now result }
     {
         if !is_formed(block) {
-            return Job::refused(1);
+            return Err(Refusal::Form);
         }
         if !is_sized(block) {
-            return Job::refused(2);
+            return Err(Refusal::Size);
         }
-        if !is_paired(block[0]) {
-            return Job::accepted(block); // no pair is used
+        let family = Family::try_from(block[0])?;
+        if is_paired(block[0]) && has_twins(&block[4..4 + 2 * wide(block[3])]) {
+            return Err(Refusal::Twin);
         }
-        let k = wide(block[3]);
-        if has_twins(block, k) {
-            return Job::refused(3);
-        }
-        Job::accepted(block)
+        let job = Job::held(family, block);
+        Ok(job)
     }
 
-    fn accepted(block: &[u8]) -> Made
+    fn held(family: Family, block: &[u8]) -> Job
         requires { Whole block.now }
-        ensures { result ≡ accepted_by block.now }
-    {
-        Made {
-            refusal: 0,
-            job: Job::held(block),
-        }
-    }
-
-    fn held(block: &[u8]) -> Job
-        requires { Whole block.now }
-        ensures { result ≡ held_by block.now }
+        ensures { result ≡ held_by family block.now }
     {
         let a = [
             block[4], block[6], block[8], block[10], block[12], block[14], block[16], block[18],
@@ -383,28 +389,12 @@ impl Job {
             raise(block[19]),
         ];
         Job {
-            family: block[0],
+            family,
             n: block[1],
             m: raise(block[2]),
             k: block[3],
             a,
             b,
-        }
-    }
-
-    fn refused(no: u8) -> Made
-        ensures { result ≡ refused_by no }
-    {
-        Made {
-            refusal: no,
-            job: Job {
-                family: 0,
-                n: 0,
-                m: 0,
-                k: 0,
-                a: [0u8; Job::STEPS],
-                b: [0u8; Job::STEPS],
-            },
         }
     }
 }

@@ -1,14 +1,14 @@
 -- Laws of the letters. Assumes nothing.
 --
---   place_n, place-e, place-d, place_no, place-low, place-high, place-digit    the branches of `ordinal_of`
---   glyph_n, glyph-e, glyph-d, glyph-digit    the branches of `glyph_of`
---   place-lettered, place-glyph    the byte of a step stands for that step
+--   place_n, place-e, place-d, place_no         the branches of `ordinal_of` at N E D
+--   glyph_n, glyph-e, glyph-d, glyph-digit      the branches of `glyph_of`
+--   place-lettered, place-glyph                 the byte of a step stands for that step
 use mathlib.Core.Path.{◌≡◌, refl}
 use mathlib.Core.Bool.{Bool, true, false}
-use Prim.Native.Nat.{ℕ, zero, suc, ◌+◌, ◌-◌, ◌≤◌, ◌<◌}
+use Prim.Native.Nat.{ℕ, zero, suc, ◌+◌, ◌<◌}
 use native.Mathlib.Omega.{arith}
 use native.Mathlib.Nat.{add-sub_cancel}
-use borrow.Author.Tests.{lt-ltb, le-ltb, eq-eqb, ne_eqb}
+use borrow.Author.Tests.{le-ltb, eq-eqb, ne_eqb}
 use Rattle.letters.specs.Letters.{ordinal_of, glyph_of}
 
 module _ (lettered : Bool) (b : ℕ) where
@@ -28,19 +28,6 @@ module _ (lettered : Bool) (b : ℕ) where
     pub place_no : (b ≡ 78 → ⊥) → (b ≡ 69 → ⊥) → (b ≡ 68 → ⊥) → 8 ≡ ordinal_of lettered b
     unfolding ordinal_of
     place_no n m h = rw (e, ne_eqb b 78 n, ne_eqb b 69 m, ne_eqb b 68 h)
-
-  module _ (e : lettered ≡ false) where
-    pub place-low : b < 49 → 8 ≡ ordinal_of lettered b
-    unfolding ordinal_of
-    place-low h = rw (e, lt-ltb b 49 h)
-
-    pub place-high : 49 ≤ b → 56 < b → 8 ≡ ordinal_of lettered b
-    unfolding ordinal_of
-    place-high l h = rw (e, le-ltb b 49 l, lt-ltb 56 b h)
-
-    pub place-digit : 49 ≤ b → b ≤ 56 → b - 49 ≡ ordinal_of lettered b
-    unfolding ordinal_of
-    place-digit l h = rw (e, le-ltb b 49 l, le-ltb 56 b h)
 
 module _ (lettered : Bool) (i : ℕ) where
   module _ (e : lettered ≡ true) where

@@ -4,30 +4,20 @@
 ghost use Rattle.std.specs.Prelude.{◌≡◌};
 ghost use Rattle.letters.specs.Meets.{OrdinalOfMeets};
 
-use job::{Job, Step, wide};
+use job::{Job, Step};
 
 // Which step the byte b stands for; 8 where it is no letter.
+// kept: a place past every step, and no Option: whoever reads an edge compares the place with the number of its job's steps, and that one test
+// turns away a byte that is no letter and a letter that the job doesn't use; an Option would be taken apart before it, once for each step.
+#[tactic(auto, unfolding(crate::specs::Letters::ordinal_of))]
 pub fn ordinal_of(lettered: bool, b: u8) -> usize
     ensures { OrdinalOfMeets lettered b result }
 {
-    if lettered {
-        if b == Step::NORTH {
-            return 0;
-        }
-        if b == Step::EAST {
-            return 1;
-        }
-        if b == Step::DIAGONAL {
-            return 2;
-        }
-        return Job::STEPS;
+    match (lettered, b) {
+        (true, Step::NORTH) => 0,
+        (true, Step::EAST) => 1,
+        (true, Step::DIAGONAL) => 2,
+        (false, Step::FIRST..=Step::LAST) => usize::from(b - Step::FIRST),
+        _ => Job::STEPS,
     }
-    if b < Step::FIRST {
-        return Job::STEPS;
-    }
-    let last = Step::LAST;
-    if last < b {
-        return Job::STEPS;
-    }
-    wide(b) - Step::FIRST as usize
 }

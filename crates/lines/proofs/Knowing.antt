@@ -18,21 +18,12 @@ use Rattle.rules.specs.Blocks.{family_of}
 use Rattle.rules.specs.Answers.{count_answer}
 use Rattle.rules.specs.Questions.{edges_answer}
 use Rattle.rules.proofs.Answering.{known-told, count-told, count-fitted, edges-told, edges-fitted}
+use Rattle.std.specs.Prelude.{Option, Some, Result, Err}
+use Rattle.job.specs.declared.Refusal.{Refusal}
 use Rattle.job.specs.Replies.{reply}
-use Rattle.job.specs.Replies.Reply.{refusal}
-use Rattle.job.specs.declared.Counted.{Counted}
-use Rattle.job.specs.declared.Counted.TheVariants.{Refused as CountRefused}
-use Rattle.job.specs.declared.Built.{Built}
-use Rattle.job.specs.declared.Built.TheVariants.{Refused as BuildRefused}
 use Rattle.job.proofs.Standing.{Told}
-use Rattle.lines.specs.declared.Counting.{Counting}
-use Rattle.lines.specs.declared.Counting.TheVariants.{Mine as Count}
-use Rattle.lines.specs.declared.Ranked.{Ranked}
-use Rattle.lines.specs.declared.Ranked.TheVariants.{NoRoom, Refused as RanksRefused}
-use Rattle.lines.specs.declared.Numbering.TheVariants.{Mine as Numbers}
-use Rattle.lines.specs.declared.Wrote.TheVariants.{NoRoom as NoLines, Answer}
-use Rattle.lines.specs.declared.Building.TheVariants.{Mine as Edges}
-use Rattle.lines.specs.Lines.{roomy, lines}
+use Rattle.lines.specs.declared.Unanswered.TheVariants.{NoRoom, Refused}
+use Rattle.lines.specs.Lines.{roomy, lines, widened}
 use Rattle.lines.specs.Ranks.{ranks, ranks_answer}
 use Rattle.lines.specs.Mine.{CountsFor, RanksFor, LinesFor}
 use Rattle.lines.specs.Known.{CountsOf, NumbersOf, BuildsOf, Refusing, Ending}
@@ -47,13 +38,13 @@ true_not e = subst T e tt
 pub mine_by : (test : ℕ → Bool) (b : List ℕ) {f : ℕ} {t u : Bool} → f ≡ family_of b → t ≡ test f → t ≡ u → test (family_of b) ≡ u
 mine_by test b e q r = ap test (sym e) ∙ sym q ∙ r
 
-pub refusing_told : {mine room : Bool} (b : List ℕ) {r : ℕ} → mine ≡ true → room ≡ true → Told b r → Refusing mine room b r
+pub refusing_told : {mine room : Bool} (b : List ℕ) {r : Refusal} → mine ≡ true → room ≡ true → Told b r → Refusing mine room b r
 refusing_told b m q t = record {
   own = m;
   roomy = q;
   refusal = t.refusal;
   answer = known-told b t.refusal t.answer;
-  number = t.number;
+  name = t.name;
 }
 
 -- where the test of the room says so, there is room
@@ -61,47 +52,47 @@ pub roomed : (many : ℕ) (before : List ℕ) {room : Bool} → room ≡ leb man
 roomed many before e q = leb-true many (length before) (rw e at q)
 
 module _ {mine : Bool} (b : List ℕ) where
-  pub count-never : (r : Counting) → (mine ≡ true) × (true ≡ false) → CountsFor mine (count_answer b) r
+  pub count-never : (r : Option (Result ℕ Refusal)) → (mine ≡ true) × (true ≡ false) → CountsFor mine (count_answer b) r
   count-never r k = absurd (true_not k.1)
 
-  pub count_refusing : {r : ℕ} → Refusing mine true b r → CountsFor mine (count_answer b) (Count (CountRefused r))
+  pub count_refusing : {r : Refusal} → Refusing mine true b r → CountsFor mine (count_answer b) (Some (Err r))
   count_refusing {r} k =
-      mine_count k.own (count_answer b) (CountRefused r) (ap refusal k.number ∙ sym (ap reply (count-told b k.refusal k.answer)))
+      mine_count k.own (count_answer b) (Err r) (ap (λ (x : Refusal). (let y : Result ℕ Refusal = Err x in y)) k.name ∙ sym (ap reply (count-told b k.refusal k.answer)))
 
-  pub count-ending : {J : Job} (r : Counted) → Ending mine true b J → CountsOf J r → CountsFor mine (count_answer b) (Count r)
+  pub count-ending : {J : Job} (r : Result ℕ Refusal) → Ending mine true b J → CountsOf J r → CountsFor mine (count_answer b) (Some r)
   count-ending {J} r k h = mine_count k.own (count_answer b) r (h ∙ ap reply (sym (count-fitted b J k.answer)))
 
   module _ (es : List (List ℕ)) (many : ℕ) (before : List ℕ) {room : Bool} (e : room ≡ leb many (length before)) where
-    pub ranks_no_room : (mine ≡ true) × (room ≡ false) → RanksFor mine (ranks (ranks_answer b es) many before) (Numbers NoRoom) before before
+    pub ranks_no_room : (mine ≡ true) × (room ≡ false) → RanksFor mine (ranks (ranks_answer b es) many before) (Some (Err NoRoom)) before before
     ranks_no_room k =
-        mine_ranks k.0 (ranks (ranks_answer b es) many before) NoRoom before before
+        mine_ranks k.0 (ranks (ranks_answer b es) many before) (Err NoRoom) before before
         (ranks-short (ranks_answer b es) many before (leb-false many (length before) (rw e at k.1)))
 
-    pub ranks_refusing : {r : ℕ} → Refusing mine room b r → RanksFor mine (ranks (ranks_answer b es) many before) (Numbers (RanksRefused r)) before before
+    pub ranks_refusing : {r : Refusal} → Refusing mine room b r → RanksFor mine (ranks (ranks_answer b es) many before) (Some (Err (Refused r))) before before
     ranks_refusing {r} k =
-        mine_ranks k.own (ranks (ranks_answer b es) many before) (RanksRefused r) before before
-        (ranks-room (ranks_answer b es) many before (RanksRefused r) before (roomed many before e k.roomy)
-        (ranked-refused (ranks_answer b es) k.refusal r before (ranks-told b es k.refusal k.answer) k.number))
+        mine_ranks k.own (ranks (ranks_answer b es) many before) (Err (Refused r)) before before
+        (ranks-room (ranks_answer b es) many before (Err r) before (roomed many before e k.roomy)
+        (ranked-refused (ranks_answer b es) k.refusal r before (ranks-told b es k.refusal k.answer) k.name))
 
-    pub ranks-ending : {J : Job} (r : Ranked) (after : List ℕ) → Ending mine room b J → NumbersOf J es before after r
-        → RanksFor mine (ranks (ranks_answer b es) many before) (Numbers r) before after
+    pub ranks-ending : {J : Job} (r : Result ℕ Refusal) (after : List ℕ) → Ending mine room b J → NumbersOf J es before after r
+        → RanksFor mine (ranks (ranks_answer b es) many before) (Some (widened r)) before after
     ranks-ending {J} r after k h =
-        mine_ranks k.own (ranks (ranks_answer b es) many before) r before after
+        mine_ranks k.own (ranks (ranks_answer b es) many before) (widened r) before after
         (ranks-room (ranks_answer b es) many before r after (roomed many before e k.roomy) (rw (ranks-fitted b es J k.answer) h))
 
   module _ (ns steps ends : List ℕ) {room : Bool} (e : room ≡ roomy (length ns) (length steps) (length ends)) where
-    pub lines_no_room : (mine ≡ true) × (room ≡ false) → LinesFor mine (lines (edges_answer b ns) ns steps ends) (Edges NoLines) steps ends steps ends
+    pub lines_no_room : (mine ≡ true) × (room ≡ false) → LinesFor mine (lines (edges_answer b ns) ns steps ends) (Some (Err NoRoom)) steps ends steps ends
     lines_no_room k =
-        mine_lines k.0 (lines (edges_answer b ns) ns steps ends) NoLines steps ends steps ends (lines-short (edges_answer b ns) ns steps ends (rw e at k.1))
+        mine_lines k.0 (lines (edges_answer b ns) ns steps ends) (Err NoRoom) steps ends steps ends (lines-short (edges_answer b ns) ns steps ends (rw e at k.1))
 
-    pub lines_refusing : {r : ℕ} → Refusing mine room b r → LinesFor mine (lines (edges_answer b ns) ns steps ends) (Edges (Answer (BuildRefused r))) steps ends steps ends
+    pub lines_refusing : {r : Refusal} → Refusing mine room b r → LinesFor mine (lines (edges_answer b ns) ns steps ends) (Some (Err (Refused r))) steps ends steps ends
     lines_refusing {r} k =
-        mine_lines k.own (lines (edges_answer b ns) ns steps ends) (Answer (BuildRefused r)) steps ends steps ends
-        (lines-room (edges_answer b ns) ns steps ends (BuildRefused r) steps ends (rw e at k.roomy)
-        (lined-refused (edges_answer b ns) k.refusal r steps ends (edges-told b ns k.refusal k.answer) k.number))
+        mine_lines k.own (lines (edges_answer b ns) ns steps ends) (Err (Refused r)) steps ends steps ends
+        (lines-room (edges_answer b ns) ns steps ends (Err r) steps ends (rw e at k.roomy)
+        (lined-refused (edges_answer b ns) k.refusal r steps ends (edges-told b ns k.refusal k.answer) k.name))
 
-    pub lines-ending : {J : Job} (r : Built) (s t : List ℕ) → Ending mine room b J → BuildsOf J ns steps ends s t r
-        → LinesFor mine (lines (edges_answer b ns) ns steps ends) (Edges (Answer r)) steps ends s t
+    pub lines-ending : {J : Job} (r : Result ℕ Refusal) (s t : List ℕ) → Ending mine room b J → BuildsOf J ns steps ends s t r
+        → LinesFor mine (lines (edges_answer b ns) ns steps ends) (Some (widened r)) steps ends s t
     lines-ending {J} r s t k h =
-        mine_lines k.own (lines (edges_answer b ns) ns steps ends) (Answer r) steps ends s t
+        mine_lines k.own (lines (edges_answer b ns) ns steps ends) (widened r) steps ends s t
         (lines-room (edges_answer b ns) ns steps ends r s t (rw e at k.roomy) (rw (edges-fitted b ns J k.answer) h))

@@ -3,10 +3,10 @@
 --   room-few, room_for      what has_room answers; room_of: what that means
 --   Lining g ns i at ..    the edges of the first i numbers are written, and end at `at`
 --   lining_none, lining_next, lining_all    none of them, one more, all of them; lining_room, lining_part: there is room for one more
---   lined-refused, lines-short, lines-room   a refusal; no room; room; lines-roomy, lines-never, lines-built: where there is room
+--   widened_reply, narrowed_listed    an answer told of a list, and back
+--   lined-refused, lines-short, lines-room   a refusal; no room; room; lines-built: the answer, where there is room
 use mathlib.Core.Path.{◌≡◌, refl, sym, ap, ap₂, ◌∙◌}
 use mathlib.Core.Bool.{true, false}
-use mathlib.Core.Option.{some, none-ne-some}
 use mathlib.Core.List.{List, [], ◌∷◌, ◌++◌, map, append-nil, append_assoc, map-append}
 use Prim.Native.Nat.{ℕ, suc, ◌+◌, ◌*◌, ◌-◌, ◌/◌, ◌≤◌, ◌<◌}
 use native.Mathlib.Decide.{dec_le}
@@ -19,17 +19,15 @@ use borrow.Rule.Slice.PartMut.{put_mid, same_len_mid}
 use borrow.Author.Tests.{le-leb, lt-leb}
 use Rattle.howmany.proofs.Choices.{and_left, and_right, holds}
 use Rattle.rules.specs.Refusals as refusals
-use Rattle.rules.specs.Refusals.{Refusal, refusal_number}
 use Rattle.rules.specs.Refusals.Answer.{accepted, refused}
 use Rattle.rules.specs.Packs.{joined}
-use Rattle.job.specs.declared.Built.{Built}
-use Rattle.job.specs.declared.Built.TheVariants.{Length, Refused}
-use Rattle.job.specs.Replies.{reply}
-use Rattle.job.specs.Replies.Reply.{value}
+use Rattle.std.specs.Prelude.{Result, Ok, Err}
+use Rattle.job.specs.declared.Refusal.{Refusal}
+use Rattle.job.specs.Replies.{named, reply}
 use Rattle.job.proofs.Puts.{put_byte}
-use Rattle.lines.specs.declared.Wrote.{Wrote}
-use Rattle.lines.specs.declared.Wrote.TheVariants.{NoRoom, Answer}
-use Rattle.lines.specs.Lines.{ends_from, roomy, Room, lined, LinedAs, lines, built_of, WroteAs}
+use Rattle.lines.specs.declared.Unanswered.{Unanswered}
+use Rattle.lines.specs.declared.Unanswered.TheVariants.{NoRoom}
+use Rattle.lines.specs.Lines.{ends_from, roomy, Room, lined, LinedAs, listed, widened, narrowed, lines, WroteAs}
 
 -- ---- room
 
@@ -153,51 +151,48 @@ module _ (g : ℕ → List ℕ) (ns steps₀ ends₀ : List ℕ) (i at : ℕ) (s
         as_many = length-set ends i (at + n) ∙ so.as_many;
       }
 
-  pub lining_all : i ≡ length ns → LinedAs (lined (accepted (map g ns)) steps₀ ends₀) (Length at) steps ends
+  pub lining_all : i ≡ length ns → LinedAs (lined (accepted (map g ns)) steps₀ ends₀) (Ok at) steps ends
   unfolding lined
   lining_all q =
       let all : take i ns ≡ ns = ap (λ (k : ℕ). take k ns) q ∙ take-length ns in
       let at-is : at ≡ length (joined (map g ns)) = so.end ∙ ap (λ (l : List ℕ). length (joined (map g l))) all in
       let many : i ≡ length (map g ns) = q ∙ sym (length-map ns g) in
       record {
-        says = ap value at-is;
+        says = ap (λ (n : ℕ). (let r : Result ℕ Refusal = Ok n in r)) at-is;
         bytes = so.bytes ∙ ap₂ (λ (l : List ℕ) (k : ℕ). joined (map g l) ++ drop k steps₀) all at-is;
         places = so.places ∙ ap₂ (λ (l : List ℕ) (k : ℕ). ends_from 0 (map g l) ++ drop k ends₀) all many;
       }
 
 -- ---- refusals
 
-pub lined-refused : (a : refusals.Answer (List (List ℕ))) (x : Refusal) (r : ℕ) (steps ends : List ℕ) → a ≡ refused x → r ≡ refusal_number x → LinedAs (lined a steps ends) (Refused r) steps ends
+pub lined-refused : (a : refusals.Answer (List (List ℕ))) (x : refusals.Refusal) (r : Refusal) (steps ends : List ℕ) → a ≡ refused x → r ≡ named x → LinedAs (lined a steps ends) (Err r) steps ends
 unfolding lined
 lined-refused a x r steps ends e q = rw (e, q) (record { says = refl; bytes = refl; places = refl })
 
+pub widened_reply : {A : Type 0} (a : refusals.Answer A) → widened (reply a) ≡ listed a
+widened_reply (accepted a) = refl
+widened_reply (refused r) = refl
+
+pub narrowed_listed : {A : Type 0} (a : refusals.Answer A) → narrowed (listed a) ≡ reply a
+narrowed_listed (accepted a) = refl
+narrowed_listed (refused r) = refl
+
 pub lines-short : (a : refusals.Answer (List (List ℕ))) (ns steps ends : List ℕ) → roomy (length ns) (length steps) (length ends) ≡ false
-    → WroteAs (lines a ns steps ends) NoRoom steps ends
+    → WroteAs (lines a ns steps ends) (Err NoRoom) steps ends
 unfolding lines
 lines-short a ns steps ends e = rw e (record { says = refl; bytes = refl; places = refl })
 
-pub lines-room : (a : refusals.Answer (List (List ℕ))) (ns steps ends : List ℕ) (r : Built) (s t : List ℕ) → roomy (length ns) (length steps) (length ends) ≡ true
-    → LinedAs (lined a steps ends) r s t → WroteAs (lines a ns steps ends) (Answer r) s t
+pub lines-room : (a : refusals.Answer (List (List ℕ))) (ns steps ends : List ℕ) (r : Result ℕ Refusal) (s t : List ℕ) → roomy (length ns) (length steps) (length ends) ≡ true
+    → LinedAs (lined a steps ends) r s t → WroteAs (lines a ns steps ends) (widened r) s t
 unfolding lines
-lines-room a ns steps ends r s t e w = rw e (record { says = ap some w.says; bytes = w.bytes; places = w.places })
+lines-room a ns steps ends r s t e w =
+    rw e (record { says = ap widened w.says ∙ widened_reply (lined a steps ends).answer; bytes = w.bytes; places = w.places })
 
 -- where there is room, what was written is an answer
-pub lines-roomy : (a : refusals.Answer (List (List ℕ))) (ns steps ends : List ℕ) (r : Built) (s t : List ℕ) → Room (length ns) (length steps) (length ends)
-    → WroteAs (lines a ns steps ends) (Answer r) s t → LinedAs (lined a steps ends) r s t
+pub lines-built : (a : refusals.Answer (List (List ℕ))) (ns steps ends : List ℕ) (w : Result ℕ Unanswered) (r : Result ℕ Refusal) (s t : List ℕ) → Room (length ns) (length steps) (length ends)
+    → r ≡ narrowed w → WroteAs (lines a ns steps ends) w s t → LinedAs (lined a steps ends) r s t
 unfolding lines
-lines-roomy a ns steps ends r s t h w =
-    let v : WroteAs (record { told = some (reply (lined a steps ends).answer); steps = (lined a steps ends).steps; ends = (lined a steps ends).ends }) (Answer r) s t =
+lines-built a ns steps ends x r s t h e w =
+    let v : WroteAs (record { told = listed (lined a steps ends).answer; steps = (lined a steps ends).steps; ends = (lined a steps ends).ends }) x s t =
     rw (le-leb (length ns) (length ends) h.for_ends, le-leb (128 * length ns) (length steps) h.for_steps) at w in
-    record { says = cc v.says; bytes = v.bytes; places = v.places }
-
-pub lines-never : (a : refusals.Answer (List (List ℕ))) (ns steps ends s t : List ℕ) → Room (length ns) (length steps) (length ends) → WroteAs (lines a ns steps ends) NoRoom s t → ⊥
-unfolding lines
-lines-never a ns steps ends s t h w =
-    none-ne-some (reply (lined a steps ends).answer)
-    (rw (le-leb (length ns) (length ends) h.for_ends, le-leb (128 * length ns) (length steps) h.for_steps) at w.says)
-
--- the same of an answer in hand
-pub lines-built : (a : refusals.Answer (List (List ℕ))) (ns steps ends : List ℕ) (w : Wrote) (r : Built) (s t : List ℕ) → Room (length ns) (length steps) (length ends)
-    → r ≡ built_of w → WroteAs (lines a ns steps ends) w s t → LinedAs (lined a steps ends) r s t
-lines-built a ns steps ends (Answer x) r s t h e w = lines-roomy a ns steps ends r s t h (rw e w)
-lines-built a ns steps ends NoRoom r s t h e w = absurd (lines-never a ns steps ends s t h w)
+    record { says = e ∙ ap narrowed v.says ∙ narrowed_listed (lined a steps ends).answer; bytes = v.bytes; places = v.places }

@@ -12,7 +12,6 @@
 use mathlib.Core.Path.{◌≡◌, refl, sym, ap, ap₂, ◌∙◌, subst}
 use mathlib.Core.Bool.{Bool, true, false}
 use mathlib.Core.List.{List, [], ◌∷◌, ◌++◌, append-nil, append_assoc}
-use mathlib.Core.Option.{some}
 use Prim.Native.Nat.{ℕ, suc, ◌+◌, ◌≤◌, ◌<◌}
 use native.Mathlib.Numerals.{add-one}
 use native.Mathlib.Omega.{arith}
@@ -27,19 +26,21 @@ use Rattle.rules.specs.Jobs.{Job}
 use Rattle.rules.specs.Counts.{count_of}
 use Rattle.rules.specs.Blocks.{job_answer}
 use Rattle.rules.specs.Answers.{most, known_job}
-use Rattle.rules.specs.Refusals.{Answer, Refusal, refusal_number, check}
+use Rattle.rules.specs.Refusals as rules
+use Rattle.rules.specs.Refusals.{Answer, check}
 use Rattle.rules.specs.Refusals.Refusal.{over}
 use Rattle.rules.specs.Refusals.Answer.{accepted, refused}
 use Rattle.rules.proofs.Answering.{told, known, fitted}
-use Rattle.job.specs.Replies.Reply.{value}
+use Rattle.std.specs.Prelude.{Option, Result, Ok, Err}
+use Rattle.job.specs.declared.Refusal.{Refusal}
+use Rattle.job.specs.Replies.{named}
 use Rattle.job.specs.Parts.{PartOf}
 use Rattle.job.proofs.Puts.{put_byte}
-use Rattle.lines.specs.declared.Rank.{Rank}
-use Rattle.lines.specs.declared.Ranked.{Ranked}
-use Rattle.lines.specs.declared.Ranked.TheVariants.{NoRoom, Upto, Refused}
-use Rattle.lines.specs.Lines.{lesser, cut_from}
-use Rattle.lines.specs.Ranks.{RankIs, front_by, FrontIn, ranks_of, ranks_answer, ranked, ranks, RankedAs}
+use Rattle.lines.specs.declared.Unanswered.TheVariants.{NoRoom}
+use Rattle.lines.specs.Lines.{lesser, cut_from, widened}
+use Rattle.lines.specs.Ranks.{RankIs, front_by, FrontIn, ranks_of, ranks_answer, ranked, RankedAs, ranks, RanksAs}
 use Rattle.lines.proofs.Cutting.{part_cut}
+use Rattle.lines.proofs.Lining.{widened_reply}
 
 module _ (ok ok' : List ℕ → Bool) (number number' : List ℕ → ℕ) (same : (e : List ℕ) → ok e ≡ ok' e) (agree : (e : List ℕ) → ok' e ≡ true → number e ≡ number' e) where
   pub front_cong : (es : List (List ℕ)) → front_by ok number es ≡ front_by ok' number' es
@@ -129,34 +130,35 @@ module _ (ok : List ℕ → Bool) (number : List ℕ → ℕ) where
         ended (so.so_far ∙ ap (λ (z : List ℕ). so.front ++ front_by ok number (cut_from at z s)) (drop_of_length-le ends {i = i} l) ∙ append-nil so.front)
 
 pub part-rank : (ok : List ℕ → Bool) (number : List ℕ → ℕ) (s : Bor (List ℕ)) (at end : ℕ) (p : Bor (List ℕ)) → PartOf s (lesser at (length s.now)) end p
-    → {r q : Rank} → RankIs (ok p.now) (number p.now) r → r ≡ q → RankIs (ok (part_of s.now at end)) (number (part_of s.now at end)) q
+    → {r q : Option ℕ} → RankIs (ok p.now) (number p.now) r → r ≡ q → RankIs (ok (part_of s.now at end)) (number (part_of s.now at end)) q
 part-rank ok number s at end p h w e =
     let b : p.now ≡ part_of s.now at end = h.bytes ∙ part_cut s.now at end in
     subst (RankIs (ok (part_of s.now at end)) (number (part_of s.now at end))) e (rw b at w)
 
 pub ranked-of : (ok : List ℕ → Bool) (number : List ℕ → ℕ) (es : List (List ℕ)) (before after : List ℕ) (n : ℕ) → FrontIn ok number es before after n
-    → RankedAs (ranked (accepted (front_by ok number es)) before) (Upto n) after
+    → RankedAs (ranked (accepted (front_by ok number es)) before) (Ok n) after
 unfolding ranked
 ranked-of ok number es before after n w = record {
-  says = ap (λ (k : ℕ). some (value k)) w.many;
+  says = ap (λ (k : ℕ). (let r : Result ℕ Refusal = Ok k in r)) w.many;
   numbers_are = w.written ∙ ap (λ (k : ℕ). front_by ok number es ++ drop k before) w.many;
 }
 
-pub ranked-refused : (a : Answer (List ℕ)) (x : Refusal) (r : ℕ) (numbers : List ℕ) → a ≡ refused x → r ≡ refusal_number x → RankedAs (ranked a numbers) (Refused r) numbers
+pub ranked-refused : (a : Answer (List ℕ)) (x : rules.Refusal) (r : Refusal) (numbers : List ℕ) → a ≡ refused x → r ≡ named x → RankedAs (ranked a numbers) (Err r) numbers
 unfolding ranked
 ranked-refused a x r numbers e q = rw (e, q) (record { says = refl; numbers_are = refl })
 
 module _ (a : Answer (List ℕ)) (many : ℕ) (before : List ℕ) where
-  pub ranks-short : length before < many → RankedAs (ranks a many before) NoRoom before
+  pub ranks-short : length before < many → RanksAs (ranks a many before) (Err NoRoom) before
   unfolding ranks
   ranks-short l = rw (lt-leb many (length before) l) (record { says = refl; numbers_are = refl })
 
-  pub ranks-room : (r : Ranked) (after : List ℕ) → many ≤ length before → RankedAs (ranked a before) r after → RankedAs (ranks a many before) r after
+  pub ranks-room : (r : Result ℕ Refusal) (after : List ℕ) → many ≤ length before → RankedAs (ranked a before) r after → RanksAs (ranks a many before) (widened r) after
   unfolding ranks
-  ranks-room r after l w = rw (le-leb many (length before) l) w
+  ranks-room r after l w =
+      rw (le-leb many (length before) l) (record { says = ap widened w.says ∙ widened_reply (ranked a before).answer; numbers_are = w.numbers_are })
 
 module _ (b : List ℕ) (es : List (List ℕ)) where
-  pub ranks-told : (r : Refusal) → known_job b ≡ refused r → ranks_answer b es ≡ refused r
+  pub ranks-told : (r : rules.Refusal) → known_job b ≡ refused r → ranks_answer b es ≡ refused r
   unfolding ranks_answer
   ranks-told r e = told b (λ J. accepted (ranks_of J es)) r e
 

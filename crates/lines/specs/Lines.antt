@@ -4,23 +4,22 @@
 --   roomy many steps ends   there is room for so many edges of 128 steps, and for their ends; Room: the same, to be asked for
 --   Lined, LinedAs w r s e  an answer, and both lent slices after it; that r, s and e are those
 --   lined a steps ends      the edges written to the front of steps, their ends to the front of ends; refused, nothing is written
+--   listed a                an answer, told of a list; widened r: of one that is in hand
 --   Lines, WroteAs w r s e  the same, or that there was no room to begin with
---   wrote_says               what each case of Wrote says
 --   lines a ns steps ends   what is told of the edges of the numbers ns: only where there is room for any
---   built_of w               the answer, where there was room
+--   refusal_for, narrowed w    what is refused where there is no room, and the answer then
 --   lesser a b              whichever is less
 --   cut_from at ends s       the parts of s one after the other: the first begins at `at`, each ends where ends says, the next begins there
-use Rattle.std.specs.Prelude.{◌≡◌, Bool, ◌&&◌, List, [], ◌∷◌, ◌++◌, ℕ, ◌+◌, ◌*◌, ◌≤◌, leb, ltb, length, drop}
-use Rattle.std.proofs.Math.Option.{Option, none, some}
+use Rattle.std.specs.Prelude.{◌≡◌, Bool, ◌&&◌, List, [], ◌∷◌, ◌++◌, ℕ, ◌+◌, ◌*◌, ◌≤◌, leb, ltb, length, drop, Result, Ok, Err}
 use Rattle.howmany.specs.Choose.{pick}
 use Rattle.rules.specs.Refusals as refusals
 use Rattle.rules.specs.Refusals.Answer.{accepted, refused}
 use Rattle.rules.specs.Packs.{part_of, joined}
-use Rattle.job.specs.declared.Built.{Built}
-use Rattle.job.specs.declared.Built.TheVariants.{Refused}
-use Rattle.job.specs.Replies.{Reply, reply, build_says}
-use Rattle.lines.specs.declared.Wrote.{Wrote}
-use Rattle.lines.specs.declared.Wrote.TheVariants.{NoRoom, Answer}
+use Rattle.job.specs.declared.Refusal.{Refusal}
+use Rattle.job.specs.declared.Refusal.TheVariants.{Room as RoomRefusal}
+use Rattle.job.specs.Replies.{named, reply}
+use Rattle.lines.specs.declared.Unanswered.{Unanswered}
+use Rattle.lines.specs.declared.Unanswered.TheVariants.{NoRoom, Refused}
 
 -- where a pack's offsets after the first come from: "offsets .. measured from the pack's start", less where the first edge begins
 unfoldable pub ends_from : ℕ → List (List ℕ) → List ℕ
@@ -50,13 +49,21 @@ lined (accepted es) steps ends = record {
 }
 lined (refused r) steps ends = record { answer = refused r; steps = steps; ends = ends }
 
-pub record LinedAs (w : Lined) (r : Built) (steps ends : List ℕ) : Type 0 where
-  pub says : build_says r ≡ reply w.answer
+pub record LinedAs (w : Lined) (r : Result ℕ Refusal) (steps ends : List ℕ) : Type 0 where
+  pub says : r ≡ reply w.answer
   pub bytes : steps ≡ w.steps
   pub places : ends ≡ w.ends
 
+abbrev pub listed : {A : Type 0} → refusals.Answer A → Result A Unanswered
+listed (accepted a) = Ok a
+listed (refused r) = Err (Refused (named r))
+
+abbrev pub widened : {A : Type 0} → Result A Refusal → Result A Unanswered
+widened (Ok a) = Ok a
+widened (Err r) = Err (Refused r)
+
 pub record Lines : Type 0 where
-  pub told : Option (Reply ℕ)
+  pub told : Result ℕ Unanswered
   pub steps : List ℕ
   pub ends : List ℕ
 
@@ -66,21 +73,20 @@ unfolding lined
 lines a ns steps ends =
     let w = lined a steps ends in
     pick (roomy (length ns) (length steps) (length ends))
-    (record { told = some (reply w.answer); steps = w.steps; ends = w.ends })
-    (record { told = none; steps = steps; ends = ends })
+    (record { told = listed w.answer; steps = w.steps; ends = w.ends })
+    (record { told = Err NoRoom; steps = steps; ends = ends })
 
--- what each case of Wrote says
-abbrev pub wrote_says : Wrote → Option (Reply ℕ)
-wrote_says NoRoom = none
-wrote_says (Answer r) = some (build_says r)
+-- "7 Room"
+abbrev pub refusal_for : Unanswered → Refusal
+refusal_for NoRoom = RoomRefusal
+refusal_for (Refused r) = r
 
--- what was answered where there was room; the other case isn't met there
-abbrev pub built_of : Wrote → Built
-built_of NoRoom = Refused 7
-built_of (Answer r) = r
+abbrev pub narrowed : {A : Type 0} → Result A Unanswered → Result A Refusal
+narrowed (Ok a) = Ok a
+narrowed (Err w) = Err (refusal_for w)
 
-pub record WroteAs (w : Lines) (r : Wrote) (steps ends : List ℕ) : Type 0 where
-  pub says : wrote_says r ≡ w.told
+pub record WroteAs (w : Lines) (r : Result ℕ Unanswered) (steps ends : List ℕ) : Type 0 where
+  pub says : r ≡ w.told
   pub bytes : steps ≡ w.steps
   pub places : ends ≡ w.ends
 

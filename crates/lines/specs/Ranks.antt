@@ -4,32 +4,31 @@
 --   RankIs ok n r           r says that an edge is ok and has the number n, or that it isn't ok
 --   FrontIn ok number es before after n    the first n of the numbers `before` are now those of front_by, and the others are as they were
 --   ranks_of J es            front_by of the valid edges of the job J and their numbers; ranks_answer block es: of the job of a block
---   Ranks, RankedAs w r s   what is told of a list of edges, and the lent numbers after it; that r and s are those
---   ranked a numbers        the numbers written to the front, and how many; ranked_says: what each case of Ranked says of it
+--   Ranked, RankedAs w r s  an answer, and the lent numbers after it; that r and s are those
+--   ranked a numbers        the numbers written to the front, and how many; refused, nothing is written
+--   Ranks, RanksAs w r s    the same, or that there was no room to begin with
 --   ranks a many numbers    the numbers written to the front, and how many: only where there is room for all
-use Rattle.std.specs.Prelude.{◌≡◌, Bool, true, false, List, [], ◌∷◌, ◌++◌, ℕ, leb, length, drop}
-use Rattle.std.proofs.Math.Option.{Option, none, some}
+use Rattle.std.specs.Prelude.{◌≡◌, Bool, true, false, List, [], ◌∷◌, ◌++◌, ℕ, leb, length, drop, Option, Some, None, Result, Err}
 use Rattle.howmany.specs.Choose.{pick}
 use Rattle.rules.specs.Jobs.{Job}
 use Rattle.rules.specs.Valid.{is_edge}
 use Rattle.rules.specs.Numbers.{number_of}
-use Rattle.rules.specs.Refusals.{Answer, refusal_number, and_then}
+use Rattle.rules.specs.Refusals.{Answer, and_then}
 use Rattle.rules.specs.Refusals.Answer.{accepted, refused}
 use Rattle.rules.specs.Answers.{known_job}
-use Rattle.job.specs.Replies.{Reply}
-use Rattle.job.specs.Replies.Reply.{value, refusal}
-use Rattle.lines.specs.declared.Rank.{Rank}
-use Rattle.lines.specs.declared.Rank.TheVariants.{At, NoEdge}
-use Rattle.lines.specs.declared.Ranked.{Ranked}
-use Rattle.lines.specs.declared.Ranked.TheVariants.{NoRoom, Upto, Refused}
+use Rattle.job.specs.declared.Refusal.{Refusal}
+use Rattle.job.specs.Replies.{reply}
+use Rattle.lines.specs.declared.Unanswered.{Unanswered}
+use Rattle.lines.specs.declared.Unanswered.TheVariants.{NoRoom}
+use Rattle.lines.specs.Lines.{listed}
 
 unfoldable pub front_by : (List ℕ → Bool) → (List ℕ → ℕ) → List (List ℕ) → List ℕ
 front_by ok number [] = []
 front_by ok number (e ∷ es) = pick (ok e) (number e ∷ front_by ok number es) []
 
-abbrev pub RankIs : Bool → ℕ → Rank → Type 0
-RankIs ok n (At r) = (ok ≡ true) × (r ≡ n)
-RankIs ok n NoEdge = ok ≡ false
+abbrev pub RankIs : Bool → ℕ → Option ℕ → Type 0
+RankIs ok n (Some r) = (ok ≡ true) × (r ≡ n)
+RankIs ok n None = ok ≡ false
 
 pub record FrontIn (ok : List ℕ → Bool) (number : List ℕ → ℕ) (es : List (List ℕ)) (before after : List ℕ) (n : ℕ) : Type 0 where
   pub many : n ≡ length (front_by ok number es)
@@ -43,27 +42,33 @@ unfoldable pub ranks_answer : List ℕ → List (List ℕ) → Answer (List ℕ)
 unfolding known_job
 ranks_answer block es = and_then (known_job block) (λ J. accepted (ranks_of J es))
 
-pub record Ranks : Type 0 where
-  pub told : Option (Reply ℕ)
+pub record Ranked : Type 0 where
+  pub answer : Answer ℕ
   pub numbers : List ℕ
 
 -- "A refusal returns its number alone and writes nothing"; "An accepted write fills the front of the output, reports its length and
 -- touches nothing behind it."
-unfoldable pub ranked : Answer (List ℕ) → List ℕ → Ranks
-ranked (accepted rs) numbers = record { told = some (value (length rs)); numbers = rs ++ drop (length rs) numbers }
-ranked (refused r) numbers = record { told = some (refusal (refusal_number r)); numbers = numbers }
+unfoldable pub ranked : Answer (List ℕ) → List ℕ → Ranked
+ranked (accepted rs) numbers = record { answer = accepted (length rs); numbers = rs ++ drop (length rs) numbers }
+ranked (refused r) numbers = record { answer = refused r; numbers = numbers }
+
+pub record RankedAs (w : Ranked) (r : Result ℕ Refusal) (numbers : List ℕ) : Type 0 where
+  pub says : r ≡ reply w.answer
+  pub numbers_are : numbers ≡ w.numbers
+
+pub record Ranks : Type 0 where
+  pub told : Result ℕ Unanswered
+  pub numbers : List ℕ
 
 -- where there is no room for as many numbers, the edges aren't looked at
 unfoldable pub ranks : Answer (List ℕ) → ℕ → List ℕ → Ranks
 unfolding ranked
-ranks a many numbers = pick (leb many (length numbers)) (ranked a numbers) (record { told = none; numbers = numbers })
+ranks a many numbers =
+    let w = ranked a numbers in
+    pick (leb many (length numbers))
+    (record { told = listed w.answer; numbers = w.numbers })
+    (record { told = Err NoRoom; numbers = numbers })
 
--- what each case of Ranked says
-abbrev pub ranked_says : Ranked → Option (Reply ℕ)
-ranked_says NoRoom = none
-ranked_says (Upto n) = some (value n)
-ranked_says (Refused r) = some (refusal r)
-
-pub record RankedAs (w : Ranks) (r : Ranked) (numbers : List ℕ) : Type 0 where
-  pub says : ranked_says r ≡ w.told
+pub record RanksAs (w : Ranks) (r : Result ℕ Unanswered) (numbers : List ℕ) : Type 0 where
+  pub says : r ≡ w.told
   pub numbers_are : numbers ≡ w.numbers

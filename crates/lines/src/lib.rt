@@ -2,52 +2,39 @@
 // in one lent slice, and where each of them ends in another.
 #![tactic(auto)]
 
-ghost use Rattle.std.specs.Prelude.{◌≡◌};
-ghost use Rattle.lines.specs.Lines.{lesser};
+ghost use Rattle.std.specs.Prelude.{◌≡◌, ltb};
+ghost use Rattle.std.specs.List.{list_all};
+ghost use Rattle.lines.specs.declared.Unanswered.TheVariants.{Refused};
+ghost use Rattle.lines.specs.Lines.{refusal_for};
 ghost use Rattle.lines.specs.Meets.{HasRoomMeets, AllBelowMeets, PartMeets};
 
-use job::{Built, Counted};
+use job::Refusal;
 
-// What is answered of the edges of a list of numbers: that there isn't room for as many edges of any length, or the answer.
-#[derive(Drop)]
-pub enum Wrote {
+// Why a list isn't answered: there isn't room for as many answers of any length, or a refusal.
+#[derive(Clone, Copy, Debug, PartialEq, Eq)]
+pub enum Unanswered {
     NoRoom,
-    Answer(Built),
+    Refused(Refusal),
 }
 
-// What is answered of a list of edges: that there isn't room for as many numbers, how many edges have got theirs, which are all up to the
-// first that isn't valid, or a refusal number.
-#[derive(Drop)]
-pub enum Ranked {
-    NoRoom,
-    Upto(usize),
-    Refused(u8),
+impl From<Refusal> for Unanswered {
+    ghost from_gives = { λ refusal why. why ≡ Refused refusal };
+
+    fn from(why: Refusal) -> Unanswered {
+        Unanswered::Refused(why)
+    }
 }
 
-// What the crate of some families answers: that a block is of other families, or the answer.
-#[derive(Drop)]
-pub enum Counting {
-    NotMine,
-    Mine(Counted),
-}
+// Where room is what a caller has to bring, none is refusal 7.
+impl From<Unanswered> for Refusal {
+    ghost from_gives = { λ why refusal. refusal ≡ refusal_for why };
 
-#[derive(Drop)]
-pub enum Numbering {
-    NotMine,
-    Mine(Ranked),
-}
-
-#[derive(Drop)]
-pub enum Building {
-    NotMine,
-    Mine(Wrote),
-}
-
-// The number of one edge, or that the bytes are none.
-#[derive(Drop)]
-pub enum Rank {
-    At(u64),
-    NoEdge,
+    fn from(why: Unanswered) -> Refusal {
+        match why {
+            Unanswered::NoRoom => Refusal::Room,
+            Unanswered::Refused(refusal) => refusal,
+        }
+    }
 }
 
 // No edge has more steps.
@@ -70,32 +57,25 @@ pub fn has_room(many: usize, steps: usize, ends: usize) -> bool
     many <= steps / Line::LONGEST
 }
 
+fn are_below(numbers: &[u64], count: u64) -> bool
+    ensures { result ≡ list_all (λ n. ltb n count) numbers.now }
+{
+    numbers.iter().all(|&n| n < count)
+}
+
 // Whether every number is below the count.
 pub fn all_below(numbers: &[u64], count: u64) -> bool
     ensures { AllBelowMeets numbers.now count result }
 {
-    let mut i = 0;
-    while i < numbers.len() {
-        if count <= numbers[i] {
-            return false;
-        }
-        i += 1;
-    }
-    true
-}
-
-fn lesser_of(a: usize, b: usize) -> usize
-    ensures { result ≡ lesser a b }
-{
-    if a < b { a } else { b }
+    are_below(numbers, count)
 }
 
 // The bytes of s from `from` up to, not including, `to`, as part of s: none where `to` isn't above `from`, and no more than s has.
 pub fn part(s: &[u8], from: usize, to: usize) -> &[u8]
     ensures { PartMeets s.entry from to result }
 {
-    let a = lesser_of(from, s.len());
-    let e = lesser_of(to, s.len());
+    let a = from.min(s.len());
+    let e = to.min(s.len());
     if e < a {
         return &s[a..a];
     }

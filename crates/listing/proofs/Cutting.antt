@@ -2,16 +2,15 @@
 --
 --   cut_of, edge-of    the ends cut so many edges; edge i is the i-th
 --   lines_same         the same edges give the same lines
---   counting_next      one number more
-use mathlib.Core.Path.{◌≡◌, refl, sym, ap, ap₂, ◌∙◌, subst}
-use mathlib.Core.List.{List, [], ◌∷◌, ◌++◌, map, append_assoc}
+use mathlib.Core.Path.{◌≡◌, refl, sym, ap, ap₂, ◌∙◌}
+use mathlib.Core.List.{List, [], ◌∷◌, ◌++◌, append_assoc}
 use Prim.Native.Nat.{ℕ, zero, suc, ◌+◌, ◌-◌, ◌≤◌, ◌<◌}
-use native.Mathlib.Decide.{dec_lt}
 use native.Mathlib.Omega.{arith}
-use lib.ListN.{length, get_or, take, drop, set, length-append}
-use lib.Seq.{take-append_seam, drop-append_seam, get_or-set_same, get_or-set_other}
+use lib.ListN.{length, get_or, take, drop, length-append}
+use lib.Seq.{take-append_seam, drop-append_seam}
 use Rattle.rules.specs.Packs.{joined}
 use Rattle.lines.specs.Lines.{ends_from}
+use Rattle.lines.proofs.Lining.{length-ends}
 use Rattle.listing.specs.Listing.{line_text, lines_text}
 use Rattle.listing.specs.Texts.{edge_at, Cut}
 
@@ -34,32 +33,28 @@ cut-first pre e xs es =
 cut-next : (base b : ℕ) (steps ends : List ℕ) (i : ℕ) (e : List ℕ) → CutAt b steps ends i e → CutAt base steps (b ∷ ends) (suc i) e
 cut-next base b steps ends i e c = record { rise = c.rise; within = c.within; edge = c.edge }
 
-cut_at : (rest more pre : List ℕ) (es : List (List ℕ)) (i : ℕ) → i < length es
-    → CutAt (length pre) (pre ++ (joined es ++ rest)) (ends_from (length pre) es ++ more) i (get_or es i [])
+cut_at : (rest pre : List ℕ) (es : List (List ℕ)) (i : ℕ) → i < length es
+    → CutAt (length pre) (pre ++ (joined es ++ rest)) (ends_from (length pre) es) i (get_or es i [])
 unfolding joined ends_from
-cut_at rest more pre [] i l = absurd (omega arith)
-cut_at rest more pre (e ∷ es) zero l =
-    rw (append_assoc e (joined es) rest) (cut-first pre e (joined es ++ rest) (ends_from (length pre + length e) es ++ more))
-cut_at rest more pre (e ∷ es) (suc i) l =
+cut_at rest pre [] i l = absurd (omega arith)
+cut_at rest pre (e ∷ es) zero l = rw (append_assoc e (joined es) rest) (cut-first pre e (joined es ++ rest) (ends_from (length pre + length e) es))
+cut_at rest pre (e ∷ es) (suc i) l =
     let whole : (pre ++ e) ++ (joined es ++ rest) ≡ pre ++ ((e ++ joined es) ++ rest) =
     append_assoc pre e (joined es ++ rest) ∙ ap (λ (z : List ℕ). pre ++ z) (sym (append_assoc e (joined es) rest)) in
-    cut-next (length pre) (length pre + length e) (pre ++ ((e ++ joined es) ++ rest)) (ends_from (length pre + length e) es ++ more) i (get_or es i [])
-    (rw (length-append pre e, whole) at (cut_at rest more (pre ++ e) es i (omega arith)))
+    cut-next (length pre) (length pre + length e) (pre ++ ((e ++ joined es) ++ rest)) (ends_from (length pre + length e) es) i (get_or es i [])
+    (rw (length-append pre e, whole) at (cut_at rest (pre ++ e) es i (omega arith)))
 
-ends-many : (at : ℕ) (es : List (List ℕ)) → length (ends_from at es) ≡ length es
-unfolding ends_from
-ends-many at [] = refl
-ends-many at (e ∷ es) = ap suc (ends-many (at + length e) es)
-
-module _ (es : List (List ℕ)) (rest more steps ends : List ℕ) (s : steps ≡ joined es ++ rest) (t : ends ≡ ends_from 0 es ++ more) where
+module _ (es : List (List ℕ)) (rest steps ends : List ℕ) (s : steps ≡ joined es ++ rest) (t : ends ≡ ends_from 0 es) where
   cut-here : (i : ℕ) → i < length es → CutAt 0 steps ends i (get_or es i [])
-  cut-here i l = rw (s, t) (cut_at rest more [] es i l)
+  cut-here i l = rw (s, t) (cut_at rest [] es i l)
 
-  pub cut_of : Cut steps ends (length es)
+  many : length ends ≡ length es
+  many = ap length t ∙ length-ends 0 es
+
+  pub cut_of : Cut steps ends
   cut_of = record {
-    ended = omega (arith, ap length t, length-append (ends_from 0 es) more, ends-many 0 es);
-    rise = λ i l. (cut-here i l).rise;
-    within = λ i l. (cut-here i l).within;
+    rise = λ i l. (cut-here i (omega (arith, many))).rise;
+    within = λ i l. (cut-here i (omega (arith, many))).within;
   }
 
   pub edge-of : (i : ℕ) → i < length es → edge_at steps ends i ≡ get_or es i []
@@ -71,18 +66,3 @@ unfolding lines_text
 lines_same g h zero f = refl
 lines_same g h (suc k) f =
     ap₂ (λ (x y : List ℕ). x ++ line_text k y) (lines_same g h k (λ i l. f i (omega arith))) (f k (omega arith))
-
-pub get_d_map : (g : ℕ → List ℕ) (ns : List ℕ) (i : ℕ) → i < length ns → get_or (map g ns) i [] ≡ g (get_or ns i 0)
-get_d_map g [] i l = absurd (omega arith)
-get_d_map g (n ∷ ns) zero l = refl
-get_d_map g (n ∷ ns) (suc i) l = get_d_map g ns i (omega arith)
-
-pub counting_next : (ns : List ℕ) (i v : ℕ) → v ≡ i → i < length ns → ((j : ℕ) → j < i → get_or ns j 0 ≡ j)
-    → (j : ℕ) → j < i + 1 → get_or (set ns i v) j 0 ≡ j
-counting_next ns i v e l f j h = go (dec_lt j i)
-  where
-    go : Dec (j < i) → get_or (set ns i v) j 0 ≡ j
-    go (yes a) = get_or-set_other ns i j v 0 (λ q. omega arith) ∙ f j a
-    go (no a) =
-        let q : i ≡ j = omega arith in
-        subst (λ (z : ℕ). get_or (set ns i v) z 0 ≡ z) q (get_or-set_same ns i v 0 l ∙ e)

@@ -1,14 +1,14 @@
 -- Laws of numbers in digits. Assumes nothing.
 --
 --   decimal-is      the fewest digits that hold n are n in digits
---   fewest_most     a number of 64 bits has 20 at most; decimal-long: so has any number here
+--   decimal-long    a number has 20 digits at most
 --   signed_low, signed_high    a byte below 128, and from 128 on
 use mathlib.Core.Path.{◌≡◌, refl, sym, ap, subst}
 use mathlib.Core.Bool.{Bool, false}
 use mathlib.Core.List.{[], ◌∷◌}
 use Prim.Native.Nat.{ℕ, zero, suc, ◌-◌, ◌/◌, ◌%◌, ◌^◌, ◌≤◌, ◌<◌}
 use native.Mathlib.Nat.{pow-le-pow_right, le_trans}
-use native.Mathlib.Decide.{dec_lt, dec_le}
+use native.Mathlib.Decide.{dec_lt}
 use native.Mathlib.Omega.{arith}
 use lib.Dec.{ltb}
 use lib.ListN.{length, length-append}
@@ -41,18 +41,6 @@ places-suc n k f l = ap suc (sym (go (dec_lt k 19)))
 places_is : (n r : ℕ) → IsDigitCount 10 1 n r → r ≤ 20 → r ≡ places n
 places_is n zero f l = absurd (omega (arith, f.0))
 places_is n (suc k) f l = places-suc n k f (omega arith)
-
--- no number of 64 bits has more than 20 digits
-pub fewest_most : (n r : ℕ) → n < 2 ^ 64 → IsDigitCount 10 1 n r → r ≤ 20
-fewest_most n r l f = go (dec_le r 20)
-  where
-    go : Dec (r ≤ 20) → r ≤ 20
-    go (yes h) = h
-    go (no h) =
-        let more : 10 ^ 20 ≤ 10 ^ (r - 1) = pow-le-pow_right {n = 10} (omega arith) {i = 20} {j = r - 1} (omega arith) in
-        let held : 10 ^ (r - 1) ≤ n = f.2 (omega arith) in
-        let big : 10 ^ 20 ≤ n = le_trans more held in
-        absurd (omega arith)
 
 pub decimal-is : (n r : ℕ) → IsDigitCount 10 1 n r → r ≤ 20 → last_digits 10 r n ≡ decimal n
 unfolding decimal

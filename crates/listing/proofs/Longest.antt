@@ -1,13 +1,14 @@
 -- No listing is longer than 152,000 bytes, so none is refused where there is room for as many. Assumes nothing.
 --
 --   listing_most    the bound; never-refused: what follows from it for whoever lends so many bytes
-use mathlib.Core.Path.{◌≡◌, refl}
+use mathlib.Core.Path.{◌≡◌, refl, sym}
 use mathlib.Core.List.{List}
 use Prim.Native.Nat.{ℕ, zero, suc, ◌*◌, ◌≤◌, ◌<◌, min}
 use native.Mathlib.Nat.{min-le_left, min-le_right}
 use native.Mathlib.Omega.{arith}
 use lib.ListN.{length, length-append}
 use borrow.Author.Tests.{le-leb}
+use Rattle.std.specs.Prelude.{Result, Err}
 use Rattle.rules.specs.Jobs as rules
 use Rattle.rules.specs.Counts.{count_of}
 use Rattle.rules.specs.Numbers.{edge_of}
@@ -16,9 +17,9 @@ use Rattle.rules.specs.Refusals.Answer.{accepted, refused}
 use Rattle.rules.specs.Answers.{known_job, written}
 use Rattle.rules.proofs.Hence.{known-job}
 use Rattle.rules.proofs.Lengths.{edge-short}
-use Rattle.job.specs.declared.Built.{Built}
-use Rattle.job.specs.declared.Built.TheVariants.{Refused}
+use Rattle.job.specs.declared.Refusal.{Refusal}
 use Rattle.job.specs.Replies.{BuiltAs}
+use Rattle.job.proofs.Says.{value_not}
 use Rattle.listing.specs.Listing.{decimal, refused_word, field, feed, header_text, line_text, lines_text, refused_text, answer_text, listing_text}
 use Rattle.listing.proofs.Decimals.{decimal-long}
 use Rattle.listing.proofs.Lengths.{header_long, line_long}
@@ -49,11 +50,9 @@ pub listing_most : (b : List ℕ) → length (listing_text b) ≤ 152000
 unfolding listing_text
 listing_most b = answer-most b (known_job b) (λ J e r l. edge-short b J (known-job b J e).job r l)
 
-pub never-refused : (b out : List ℕ) (x : Built) (after : List ℕ) (k : ℕ) → 152000 ≤ length out
-    → BuiltAs (written (accepted (listing_text b)) out) x after → x ≡ Refused k → ⊥
+pub never-refused : (b out : List ℕ) (x : Result ℕ Refusal) (after : List ℕ) (k : Refusal) → 152000 ≤ length out
+    → BuiltAs (written (accepted (listing_text b)) out) x after → x ≡ Err k → ⊥
 unfolding written
 never-refused b out x after k l w q =
     let v = rw (le-leb (length (listing_text b)) (length out) (omega (arith, listing_most b))) at (rw q at w) in
-    let p = v.says in
-    let z : ◌≡◌ {A = ℕ} 0 1 = cc in
-    omega arith
+    value_not (sym v.says)

@@ -1,32 +1,33 @@
 -- Laws of the edges of a pack as a list. Assumes nothing.
 --
 --   edge-is          edge i, as the part between its offsets
---   equals-is        two of them are the same bytes
+--   partner-is       the first edge before edge i that is found equal is the earliest that is
 --   cut-edges        the parts between the offsets, one after the other, are the edges
 --   edges-fine, edges-wrong, edges_none    what is told of the edges of a pack
---   Ending p ends c i    where the first i edges end is known; ending-start, ending-more, ending-all: none, one more, all
+--   Ending p ends c i    where the first i edges end is known
 use mathlib.Core.Path.{◌≡◌, refl, ap, ap₂, sym, ◌∙◌}
-use mathlib.Core.Bool.{Bool}
-use mathlib.Core.Option.{none, some, none-ne-some, some-injective}
+use mathlib.Core.Bool.{true, false}
+use mathlib.Core.Option.{Option, none, some, none-ne-some}
 use mathlib.Core.List.{List, [], ◌∷◌}
 use Prim.Native.Nat.{ℕ, suc, ◌+◌, ◌≤◌, ◌<◌}
 use native.Mathlib.Nat.{zero-add}
 use native.Mathlib.Numerals.{add-one}
-use native.Mathlib.Decide.{ℕ_discrete}
 use native.Mathlib.Omega.{arith}
-use lib.ListN.{length, get_or, take, set, replicate, length-set, length-replicate}
-use lib.Seq.{get_or-take, get_or-set_same, get_or-set_other, length-take-le}
-use Rattle.howmany.specs.Choose.{pick}
+use lib.ListN.{length, get_or, take}
+use lib.Seq.{get_or-take, length-take-le}
+use Rattle.std.specs.Prelude.{Option as Maybe, Some, None, MatchOption, Result, Ok, Err}
+use Rattle.howmany.proofs.Leasts.{least_at, least-none}
 use Rattle.rules.specs.Jobs.{Job}
 use Rattle.rules.specs.Blocks.{job_answer}
 use Rattle.rules.specs.Refusals.Answer.{accepted}
 use Rattle.rules.specs.Packs.{part_of, offset, count_in, edge_in, edges_from, same_bytes}
-use Rattle.rules.specs.Questions.{equals}
+use Rattle.rules.specs.Questions.{all_valid, equals, partner}
+use Rattle.job.specs.declared.Refusal.{Refusal}
+use Rattle.job.specs.declared.Refusal.TheVariants.{NotEdge}
+use Rattle.job.proofs.Says.{value_not, value-one}
 use Rattle.rules.proofs.PackLaws.{edges_at}
 use Rattle.lines.specs.Lines.{cut_from}
-use Rattle.walks.specs.declared.Checked.{Checked}
-use Rattle.walks.specs.declared.Checked.TheVariants.{NoJob, Edges, Stops}
-use Rattle.walks.specs.Walks.{first_wrong, check_of, checked_says}
+use Rattle.walks.specs.Walks.{found, finding, first_wrong, check_of}
 use Rattle.walks.proofs.Checking.{all_valid_lem, not_all}
 use Rattle.pack.specs.Layout.{edges_in, EndsOf, EdgesAs}
 
@@ -38,8 +39,18 @@ module _ (p : List ℕ) where
   edge-of : (c i : ℕ) → i < c → get_or (edges_from p 0 c) i [] ≡ edge_in p i
   edge-of c i l = edges_at p 0 c i i (zero-add i) l
 
-  pub equals-is : (c i j : ℕ) → i < c → j < c → equals (edges_from p 0 c) i j ≡ same_bytes (edge_in p i) (edge_in p j)
+  equals-is : (c i j : ℕ) → i < c → j < c → equals (edges_from p 0 c) i j ≡ same_bytes (edge_in p i) (edge_in p j)
   equals-is c i j l m = rw (edge-of c i l, edge-of c j m)
+
+  pub partner-is : (i : ℕ) (r : Maybe ℕ) → i < count_in p
+      → MatchOption r ((k : ℕ) → 0 ≤ k → k < i → same_bytes (edge_in p i) (edge_in p k) ≡ false)
+      (λ j. (0 ≤ j) × (j < i) × (same_bytes (edge_in p i) (edge_in p j) ≡ true) × ((k : ℕ) → 0 ≤ k → k < j → same_bytes (edge_in p i) (edge_in p k) ≡ false))
+      → MatchOption r (partner (edges_in p) i ≡ i) (λ j. (j < i) × (partner (edges_in p) i ≡ j))
+  unfolding partner
+  partner-is i None l h = least-none (equals (edges_in p) i) i (λ k m. equals-is (count_in p) i k l (omega arith) ∙ h k (omega arith) m)
+  partner-is i (Some j) l h =
+      let e : equals (edges_in p) i j ≡ true = equals-is (count_in p) i j l (omega (arith, h.1)) ∙ h.2 in
+      (h.1, least_at (equals (edges_in p) i) j i (least-none (equals (edges_in p) i) j (λ k m. equals-is (count_in p) i k l (omega (arith, h.1)) ∙ h.3 k (omega arith) m)) e h.1)
 
   -- ---- the edges as parts
 
@@ -62,22 +73,30 @@ module _ (p : List ℕ) where
 
 -- ---- what is told of the edges
 
-module _ (b : List ℕ) (es cut : List (List ℕ)) (e : cut ≡ es) (x : Checked) (w : checked_says x ≡ check_of (job_answer b) cut) where
-  told : (J : Job) → job_answer b ≡ accepted J → checked_says x ≡ some (first_wrong J es)
-  told J q = w ∙ ap₂ check_of q e
+abbrev sought : {A : Type 0} → Maybe A → Option A
+sought None = none
+sought (Some x) = some x
 
-  pub edges-fine : x ≡ Edges → EdgesAs b es 0
-  edges-fine h J q =
-      let f : none ≡ first_wrong J es = some-injective none (first_wrong J es) (sym (ap checked_says h) ∙ told J q) in
-      sym (ap (λ (t : Bool). pick t 0 5) (all_valid_lem J es (sym f)))
+module _ (b : List ℕ) (es : List (List ℕ)) {r : Result (Maybe (ℕ × ℕ)) Refusal} (w : r ≡ finding (check_of (job_answer b) es)) where
+  told : (J : Job) → job_answer b ≡ accepted J → r ≡ Ok (found (first_wrong J es))
+  told J q = w ∙ ap (λ a. finding (check_of a es)) q
 
-  pub edges-wrong : {i k : ℕ} → x ≡ Stops i k → EdgesAs b es 5
-  edges-wrong {i} {k} h J q =
-      let f : some (i, k) ≡ first_wrong J es = some-injective (some (i, k)) (first_wrong J es) (sym (ap checked_says h) ∙ told J q) in
-      sym (ap (λ (t : Bool). pick t 0 5) (not_all J es (i, k) (sym f)))
+  pub edges-fine : {o : Maybe (ℕ × ℕ)} → r ≡ Ok o → o ≡ None → EdgesAs b es (Ok tt)
+  edges-fine e n J q = go (first_wrong J es) refl (sym n ∙ value-one (sym e ∙ told J q))
+    where
+      go : (o : Option (ℕ × ℕ)) → first_wrong J es ≡ o → None ≡ found o → all_valid J es ≡ true
+      go none e f = all_valid_lem J es e
+      go (some x) e f = absurd (none-ne-some x (ap sought f))
 
-  pub edges_none : x ≡ NoJob → EdgesAs b es 5
-  edges_none h J q = absurd (none-ne-some (first_wrong J es) (sym (ap checked_says h) ∙ told J q))
+  pub edges-wrong : {o : Maybe (ℕ × ℕ)} {x : ℕ × ℕ} → r ≡ Ok o → o ≡ Some x → EdgesAs b es (Err NotEdge)
+  edges-wrong {o} {x} e n J q = (refl, go (first_wrong J es) refl (sym n ∙ value-one (sym e ∙ told J q)))
+    where
+      go : (o : Option (ℕ × ℕ)) → first_wrong J es ≡ o → Some x ≡ found o → all_valid J es ≡ false
+      go none e f = absurd (none-ne-some x (sym (ap sought f)))
+      go (some y) e f = not_all J es y e
+
+  pub edges_none : {x : Refusal} → r ≡ Err x → EdgesAs b es (Err x)
+  edges_none e J q = absurd (value_not (sym (told J q) ∙ e))
 
 -- ---- where each edge ends
 
@@ -86,21 +105,3 @@ pub record Ending (p ends : List ℕ) (c i : ℕ) : Type 0 where
   pub passed : i ≤ c
   pub long : length ends ≡ 200
   pub so_far : (k : ℕ) → k < i → get_or ends k 0 ≡ offset p (k + 1)
-
-pub ending-start : (p : List ℕ) (c : ℕ) → c ≡ count_in p → Ending p (replicate 200 0) c 0
-ending-start p c e = record { many = e; passed = omega arith; long = length-replicate {A = ℕ} 200 0; so_far = λ k l. absurd (omega arith) }
-
-pub ending-more : {p ends : List ℕ} {c i : ℕ} → Ending p ends c i → {v : ℕ} → i < c → v ≡ offset p (i + 1) → c ≤ 200 → Ending p (set ends i v) c (i + 1)
-ending-more {p} {ends} {c} {i} w {v} l e few = record {
-  many = w.many;
-  passed = omega arith;
-  long = length-set ends i v ∙ w.long;
-  so_far = λ k m. go k m (ℕ_discrete k i);
-}
-  where
-    go : (k : ℕ) → k < i + 1 → Dec (k ≡ i) → get_or (set ends i v) k 0 ≡ offset p (k + 1)
-    go k m (yes q) = rw q (get_or-set_same ends i v 0 (omega (arith, w.long)) ∙ e)
-    go k m (no q) = get_or-set_other ends i k v 0 q ∙ w.so_far k (omega arith)
-
-pub ending-all : {p ends : List ℕ} {c i : ℕ} → Ending p ends c i → c ≤ i → EndsOf p ends
-ending-all w l = record { long = w.long; is = λ k m. w.so_far k (omega (arith, w.many)) }

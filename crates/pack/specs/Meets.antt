@@ -6,22 +6,20 @@
 --   EdgeRefusalMeets    the refusal number of that question
 --   RepeatMeets         the first edge that equals an earlier one, with the earliest, or none
 --   NumberAllMeets      the numbers of all edges of a pack, at the front of a list
-use Rattle.std.specs.Prelude.{◌≡◌, List, ℕ}
+use Rattle.std.specs.Prelude.{◌≡◌, List, ℕ, Option, Result}
 use Rattle.std.specs.Borrow.{Bor}
 use Rattle.rules.specs.Questions.{part_answer, repeat_answer}
-use Rattle.job.specs.Parts.{refusal_in}
-use Rattle.job.specs.Replies.{reply}
 use Rattle.rules.specs.Whole.{numbers_answer}
+use Rattle.job.specs.declared.Refusal.{Refusal}
+use Rattle.job.specs.Parts.{refusal_in}
 use Rattle.pack.specs.Parts.{EdgeIs}
 use Rattle.pack.specs.Whole.{ListedAs}
-use Rattle.pack.specs.declared.Numbers.{Numbers}
-use Rattle.pack.specs.Replies.{part_says, repeat_says}
-use Rattle.pack.specs.declared.Parted.{Parted}
-use Rattle.pack.specs.declared.Repeats.{Repeats}
+use Rattle.pack.specs.declared.Fault.{Fault}
+use Rattle.pack.specs.Replies.{reply_by, placed, paired}
 
 -- "Edge i of a pack", told by where it begins and ends
-abbrev pub PartMeets : List ℕ → ℕ → Parted → Type 0
-PartMeets pack i r = part_says r ≡ reply (part_answer pack i)
+abbrev pub PartMeets : List ℕ → ℕ → Result (ℕ × ℕ) Refusal → Type 0
+PartMeets pack i r = r ≡ reply_by placed (part_answer pack i)
 
 -- "Edge i of a pack: handed back as part of the pack."
 abbrev pub EdgeMeets : Bor (List ℕ) → ℕ → Bor (List ℕ) → Type 0
@@ -32,9 +30,9 @@ abbrev pub EdgeRefusalMeets : List ℕ → ℕ → ℕ → Type 0
 EdgeRefusalMeets pack i r = r ≡ refusal_in (part_answer pack i)
 
 -- "Repeat: in a pack, the first edge that equals an earlier one, with the earliest it equals, or none."
-abbrev pub RepeatMeets : List ℕ → Repeats → Type 0
-RepeatMeets pack r = repeat_says r ≡ reply (repeat_answer pack)
+abbrev pub RepeatMeets : List ℕ → Result (Option (ℕ × ℕ)) Refusal → Type 0
+RepeatMeets pack r = r ≡ reply_by paired (repeat_answer pack)
 
 -- "We want one call from a pack to a lent list of 64-bit numbers."
-abbrev pub NumberAllMeets : List ℕ → List ℕ → Numbers → List ℕ → Type 0
+abbrev pub NumberAllMeets : List ℕ → List ℕ → Result ℕ Fault → List ℕ → Type 0
 NumberAllMeets pack list r list-after = ListedAs (numbers_answer pack list) r list-after

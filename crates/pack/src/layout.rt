@@ -1,98 +1,44 @@
 // The layout of a pack (document 01, "Edge pack"): its mark, its edge count, its offsets and its edges.
-ghost use Rattle.std.specs.Prelude.{◌≡◌, ℕ, ◌+◌, ◌*◌, ◌≤◌, ◌<◌, length, take};
-ghost use Rattle.rules.specs.Packs.{count_in, shortest, laid, mark, offset, rises, same_bytes, word};
-ghost use Rattle.pack.specs.Layout.{EdgeAt, EndsOf, Laid, Offset};
-ghost use Rattle.job.specs.Parts.{PartOf};
+ghost use Rattle.std.specs.Prelude.{◌≡◌, true, false, MatchResult, ◌+◌, ◌*◌, ◌≤◌, ◌<◌, length, take};
+ghost use Rattle.rules.specs.Packs.{count_in, shortest, block_in, edge_in, laid, mark, offset, rises, same_bytes, word};
+ghost use Rattle.pack.specs.Layout.{EndsOf, Offset};
 
 use super::Pack;
+use job::Refusal;
 
-// A byte as a number.
-fn wide(b: u8) -> usize
-    ensures { (result ≡ b) × (result < 256) }
+// "Little-endian": the number of the two bytes at k.
+fn word_at(bytes: &[u8], k: usize) -> usize
+    requires { k + 2 ≤ length bytes.now }
+    ensures { (result ≡ word bytes.now k) × (result < 65536) }
 {
-    b as usize
+    usize::from(u16::from_le_bytes([bytes[k], bytes[k + 1]]))
 }
 
-// "Little-endian": a number by its low and its high byte.
-fn little(low: u8, high: u8) -> usize
-    ensures { (result ≡ low + 256 * high) × (result < 65536) }
+fn offset_at(bytes: &[u8], i: usize) -> usize
+    requires { Offset bytes.now i }
+    ensures { result ≡ offset bytes.now i }
 {
-    wide(low) + 256 * wide(high)
-}
-
-// The number of the two bytes at k.
-fn word_at(pack: &[u8], k: usize) -> usize
-    requires { k + 2 ≤ length pack.now }
-    ensures { (result ≡ word pack.now k) × (result < 65536) }
-{
-    little(pack[k], pack[k + 1])
-}
-
-// The edge count c.
-pub(crate) fn edge_count(pack: &[u8]) -> usize
-    requires { shortest ≤ length pack.now }
-    ensures { (result ≡ count_in pack.now) × (result < 65536) }
-{
-    word_at(pack, Pack::COUNT)
-}
-
-pub(crate) fn offset_at(pack: &[u8], i: usize) -> usize
-    requires { Offset pack.now i }
-    ensures { result ≡ offset pack.now i }
-{
-    word_at(pack, Pack::OFFSETS + 2 * i)
-}
-
-// Edge i, as part of the pack.
-pub(crate) fn edge_at(pack: &[u8], i: usize) -> &[u8]
-    requires { EdgeAt pack.now i }
-    ensures { PartOf pack.entry (offset pack.now i) (offset pack.now (i + 1)) result }
-{
-    let start = offset_at(pack, i);
-    let end = offset_at(pack, i + 1);
-    &pack[start..end]
-}
-
-// Where each edge ends, for as many as there are: the offsets after the first.
-pub(crate) fn ends_of(pack: &[u8]) -> [usize; Pack::MOST]
-    requires { Laid pack.now }
-    ensures { EndsOf pack.now result }
-{
-    let c = edge_count(pack);
-    let mut ends = [0usize; Pack::MOST];
-    let mut i: usize = 0;
-    while i < c {
-        ends[i] = offset_at(pack, i + 1);
-        i += 1;
-    }
-    ends
+    word_at(bytes, Pack::OFFSETS + 2 * i)
 }
 
 // "The first four bytes are `EDG1`".
-fn is_marked(pack: &[u8]) -> bool
-    requires { 4 ≤ length pack.now }
-    ensures { result ≡ same_bytes (take 4 pack.now) mark }
+fn is_marked(bytes: &[u8]) -> bool
+    requires { 4 ≤ length bytes.now }
+    ensures { result ≡ same_bytes (take 4 bytes.now) mark }
 {
-    &pack[0..4] == Pack::MARK.as_slice()
+    bytes.starts_with(&Pack::MARK)
 }
 
 // "offsets never fall": the first c + 1 offsets.
-fn is_rising(pack: &[u8], c: usize) -> bool
-    requires { Offset pack.now c }
-    ensures { result ≡ rises pack.now c }
+fn is_rising(bytes: &[u8], c: usize) -> bool
+    requires { Offset bytes.now c }
+    ensures { result ≡ rises bytes.now c }
 {
-    let mut i: usize = 0;
-    while i < c {
-        if offset_at(pack, i + 1) < offset_at(pack, i) {
-            return false;
-        }
-        i += 1;
-    }
-    true
+    (0..c).all(|i| offset_at(bytes, i) <= offset_at(bytes, i + 1))
 }
 
-// Refusal 8 isn't given. That the c + 1 offsets fit is tested before any is read.
-pub(crate) fn is_laid(pack: &[u8]) -> bool
+// That the c + 1 offsets fit is tested before any is read.
+fn is_laid(pack: &[u8]) -> bool
     ensures { result ≡ laid pack.now }
 {
     if pack.len() < Pack::SHORTEST {
@@ -104,7 +50,7 @@ pub(crate) fn is_laid(pack: &[u8]) -> bool
     if !is_marked(pack) {
         return false;
     }
-    let c = edge_count(pack);
+    let c = word_at(pack, Pack::COUNT);
     if Pack::MOST < c {
         return false;
     }
@@ -119,4 +65,71 @@ pub(crate) fn is_laid(pack: &[u8]) -> bool
         return false;
     }
     offset_at(pack, c) == pack.len()
+}
+
+// A pack whose layout is kept.
+#[derive(Clone, Copy)]
+pub(crate) struct LaidPack<'a> {
+    bytes: &'a [u8],
+    ghost laid: { laid bytes.now ≡ true },
+}
+
+impl<'a> LaidPack<'a> {
+    // "8 Pack: length, mark, c or offsets break the layout".
+    pub(crate) fn of(bytes: &'a [u8]) -> Result<LaidPack<'a>, Refusal>
+        ensures { MatchResult result (λ pack. pack.bytes.now ≡ bytes.now) (λ r. (r ≡ Refusal.BadPack) × (laid bytes.now ≡ false)) }
+    {
+        if is_laid(bytes) {
+            Ok(LaidPack { bytes })
+        } else {
+            Err(Refusal::BadPack)
+        }
+    }
+
+    pub(crate) fn bytes(&self) -> &'a [u8]
+        ensures { result.now ≡ self.now.bytes.now }
+    {
+        self.bytes
+    }
+
+    // The job block.
+    pub(crate) fn block(&self) -> &'a [u8]
+        ensures { result.now ≡ block_in self.now.bytes.now }
+    {
+        &self.bytes[Pack::BLOCK..Pack::COUNT]
+    }
+
+    // The edge count c.
+    pub(crate) fn edge_count(&self) -> usize
+        ensures { (result ≡ count_in self.now.bytes.now) × (result ≤ 200) }
+    {
+        word_at(self.bytes, Pack::COUNT)
+    }
+
+    pub(crate) fn offset_at(&self, i: usize) -> usize
+        requires { i ≤ count_in self.now.bytes.now }
+        ensures { result ≡ offset self.now.bytes.now i }
+    {
+        offset_at(self.bytes, i)
+    }
+
+    // Edge i, as part of the pack.
+    pub(crate) fn edge_at(&self, i: usize) -> &'a [u8]
+        requires { i < count_in self.now.bytes.now }
+        ensures { result.now ≡ edge_in self.now.bytes.now i }
+    {
+        &self.bytes[self.offset_at(i)..self.offset_at(i + 1)]
+    }
+
+    // Where each edge ends, for as many as there are: the offsets after the first.
+    pub(crate) fn ends(&self) -> [usize; Pack::MOST]
+        ensures { EndsOf self.now.bytes.now result }
+    {
+        let c = self.edge_count();
+        let mut ends = [0usize; Pack::MOST];
+        for i in 0..c {
+            ends[i] = self.offset_at(i + 1);
+        }
+        ends
+    }
 }

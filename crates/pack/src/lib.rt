@@ -2,12 +2,19 @@
 // numbers of all edges.
 #![tactic(auto)]
 
+ghost use Rattle.std.specs.Prelude.{◌≡◌};
+ghost use Rattle.lines.specs.Lines.{refusal_for};
+ghost use Rattle.pack.specs.declared.Fault.TheVariants.{Refused};
 ghost use Rattle.pack.specs.Meets.{PartMeets, EdgeMeets, EdgeRefusalMeets, RepeatMeets, NumberAllMeets};
 
 mod layout;
 mod refusals;
 mod twice;
 mod whole;
+
+use job::Refusal;
+use layout::LaidPack;
+use lines::Unanswered;
 
 // The constants of a pack.
 #[derive(Drop)]
@@ -30,41 +37,39 @@ impl Pack {
     pub const MOST: usize = 200;
 }
 
-// Where edge i begins and ends in its pack, or a refusal number.
-#[derive(Drop)]
-pub enum Parted {
-    Part(usize, usize),
-    Refused(u8),
-}
-
-// The first edge that equals an earlier one, with the earliest; that there is none; or a refusal number.
-#[derive(Drop)]
-pub enum Repeats {
-    At(usize, usize),
-    Never,
-    Refused(u8),
-}
-
-// How many numbers were written; the index of the first edge that isn't valid, which is refusal 5; or another refusal number.
-#[derive(Drop)]
-pub enum Numbers {
-    Count(usize),
+// Why the edges of a pack have no numbers: the index of the first that isn't valid, which is refusal 5, or another refusal.
+#[derive(Clone, Copy, Debug, PartialEq, Eq)]
+pub enum Fault {
     NotEdge(usize),
-    Refused(u8),
+    Refused(Refusal),
+}
+
+impl From<Refusal> for Fault {
+    ghost from_gives = { λ why fault. fault ≡ Refused why };
+
+    fn from(why: Refusal) -> Fault {
+        Fault::Refused(why)
+    }
+}
+
+// Where there is no room for a number of each edge, that is refusal 7.
+impl From<Unanswered> for Fault {
+    ghost from_gives = { λ why fault. fault ≡ Refused (refusal_for why) };
+
+    fn from(why: Unanswered) -> Fault {
+        Fault::Refused(Refusal::from(why))
+    }
 }
 
 // Edge i of a pack (document 01, "Questions on edges"), by where it begins and ends.
-pub fn part(pack: &[u8], i: usize) -> Parted
+pub fn part(pack: &[u8], i: usize) -> Result<(usize, usize), Refusal>
     ensures { PartMeets pack.now i result }
 {
-    let refusal = refusals::refusal_of(pack);
-    if refusal != 0 {
-        return Parted::Refused(refusal);
+    let laid = refusals::read(pack)?;
+    if laid.edge_count() <= i {
+        return Err(Refusal::NoSuchEdge);
     }
-    if layout::edge_count(pack) <= i {
-        return Parted::Refused(9);
-    }
-    Parted::Part(layout::offset_at(pack, i), layout::offset_at(pack, i + 1))
+    Ok((laid.offset_at(i), laid.offset_at(i + 1)))
 }
 
 // Edge i of a pack, "handed back as part of the pack"; on a refusal the empty part at its front.
@@ -72,38 +77,32 @@ pub fn edge(pack: &[u8], i: usize) -> &[u8]
     ensures { EdgeMeets pack.entry i result }
 {
     match part(pack, i) {
-        Parted::Part(start, end) => &pack[start..end],
-        Parted::Refused(_) => &pack[0..0],
+        Ok((start, end)) => &pack[start..end],
+        Err(_) => &pack[0..0],
     }
 }
 
-// The partner question of `edge`: the refusal number, 0 if none.
+// The partner question of `edge`.
+// kept: a number, 0 if none, is what "a partner question gives the refusal number, 0 if none" asks (`EdgeRefusalMeets`).
 pub fn edge_refusal(pack: &[u8], i: usize) -> u8
     ensures { EdgeRefusalMeets pack.now i result }
 {
     match part(pack, i) {
-        Parted::Part(_, _) => 0,
-        Parted::Refused(r) => r,
+        Ok(_) => 0,
+        Err(refusal) => u8::from(refusal),
     }
 }
 
 // "Repeat": the first edge that equals an earlier one, with the earliest it equals, or none.
-pub fn repeat(pack: &[u8]) -> Repeats
+pub fn repeat(pack: &[u8]) -> Result<Option<(usize, usize)>, Refusal>
     ensures { RepeatMeets pack.now result }
 {
-    let refusal = refusals::refusal_of(pack);
-    if refusal == 0 {
-        return twice::first_repeat(pack);
-    }
-    Repeats::Refused(refusal)
+    Ok(twice::first_repeat(&refusals::read(pack)?))
 }
 
 // "One call from a pack to a lent list of 64-bit numbers" (document 02, L1): entry i is the number of edge i. "8 first for packs".
-pub fn number_all(pack: &[u8], list: &mut [u64]) -> Numbers
+pub fn number_all(pack: &[u8], list: &mut [u64]) -> Result<usize, Fault>
     ensures { NumberAllMeets pack.now list.old result list.new }
 {
-    if !layout::is_laid(pack) {
-        return Numbers::Refused(8);
-    }
-    whole::number_edges(pack, list)
+    whole::number_edges(&LaidPack::of(pack)?, list)
 }

@@ -1,44 +1,38 @@
 // The first repeat in a pack whose layout is kept.
-ghost use Rattle.std.specs.Prelude.{◌≡◌, ℕ};
-ghost use Rattle.rules.specs.Packs.{edge_in, same_bytes};
-ghost use Rattle.rules.specs.Questions.{twice_in};
-ghost use Rattle.job.specs.Replies.Reply.{value};
-ghost use Rattle.pack.specs.Layout.{EdgeAt, Laid, edges_in};
-ghost use Rattle.pack.specs.Replies.{repeat_says};
+ghost use Rattle.std.specs.Prelude.{◌≡◌, MatchOption, ◌<◌};
+ghost use Rattle.rules.specs.Packs.{count_in, edge_in, same_bytes};
+ghost use Rattle.rules.specs.Questions.{partner, twice_in};
+ghost use Rattle.pack.specs.Layout.{edges_in};
+ghost use Rattle.pack.specs.Replies.{paired};
 
-use super::{Repeats, layout};
+use super::layout::LaidPack;
 
-// "the first edge that equals an earlier one, with the earliest it equals, or none". The outer loop is over the later
-// edge: of A B B A the answer is (2,1), not (3,0).
-pub(crate) fn first_repeat(pack: &[u8]) -> Repeats
-    requires { Laid pack.now }
-    ensures { repeat_says result ≡ value (twice_in (edges_in pack.now)) }
+// "the first edge that equals an earlier one, with the earliest it equals, or none". The loop is over the later edge: of A B B A the
+// answer is (2,1), not (3,0).
+pub(crate) fn first_repeat(pack: &LaidPack<'_>) -> Option<(usize, usize)>
+    ensures { result ≡ paired (twice_in (edges_in pack.now.bytes.now)) }
 {
-    let c = layout::edge_count(pack);
-    let mut later: usize = 0;
-    let mut earlier: usize = 0;
-    'search: while later < c {
-        earlier = 0;
-        while earlier < later {
-            if are_equal(pack, later, earlier) {
-                break 'search;
-            }
-            earlier += 1;
+    for later in 0..pack.edge_count() {
+        if let Some(earlier) = partner_of(pack, later) {
+            return Some((later, earlier));
         }
-        later += 1;
     }
-    if later < c {
-        Repeats::At(later, earlier)
-    } else {
-        Repeats::Never
-    }
+    None
+}
+
+// The earliest edge that edge i equals, of those before it.
+fn partner_of(pack: &LaidPack<'_>, i: usize) -> Option<usize>
+    requires { i < count_in pack.now.bytes.now }
+    ensures { let first = partner (edges_in pack.now.bytes.now) i in MatchOption result (first ≡ i) (λ j. (j < i) × (first ≡ j)) }
+{
+    (0..i).find(|j| are_equal(pack, i, *j))
 }
 
 // Whether edges i and j are the same bytes.
-fn are_equal(pack: &[u8], i: usize, j: usize) -> bool
-    requires first { EdgeAt pack.now i }
-    requires second { EdgeAt pack.now j }
-    ensures { result ≡ same_bytes (edge_in pack.now i) (edge_in pack.now j) }
+fn are_equal(pack: &LaidPack<'_>, i: usize, j: usize) -> bool
+    requires first { i < count_in pack.now.bytes.now }
+    requires second { j < count_in pack.now.bytes.now }
+    ensures { result ≡ same_bytes (edge_in pack.now.bytes.now i) (edge_in pack.now.bytes.now j) }
 {
-    layout::edge_at(pack, i) == layout::edge_at(pack, j)
+    pack.edge_at(i) == pack.edge_at(j)
 }

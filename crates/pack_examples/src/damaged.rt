@@ -6,34 +6,25 @@ use std::io;
 // The pack with one byte changed, asked for edge 0.
 fn change(rt: &impl Print, at: usize, to: u8) -> io::Result<()> {
     let mut p = motzkin();
-    if at < 38 {
+    if at < p.len() {
         p[at] = to;
         say::edge(rt, &p, 0)?;
     }
     Ok(())
 }
 
-fn raised(x: u8) -> u8 {
-    ((x as u16 + 1) % 256) as u8
-}
-
 // Every byte of the front, one more.
 fn front(rt: &impl Print) -> io::Result<()> {
-    let p = motzkin();
-    say::text(rt, b"each byte of the front, raised by 1\n")?;
-    let mut i: usize = 0;
-    while i < 32 {
-        change(rt, i, raised(p[i]))?;
-        i += 1;
+    let pack = motzkin();
+    println!(rt; "each byte of the front, raised by 1")?;
+    for (i, byte) in pack[0..32].iter().enumerate() {
+        change(rt, i, byte.wrapping_add(1))?;
     }
     Ok(())
 }
 
 fn offsets(rt: &impl Print) -> io::Result<()> {
-    say::text(
-        rt,
-        b"offsets equal, falling, past the end, and the last short\n",
-    )?;
+    println!(rt; "offsets equal, falling, past the end, and the last short")?;
     change(rt, 28, 32)?;
     change(rt, 28, 31)?;
     change(rt, 29, 1)?;
@@ -42,27 +33,21 @@ fn offsets(rt: &impl Print) -> io::Result<()> {
 
 // The first n bytes of the pack.
 fn cut(rt: &impl Print, n: usize) -> io::Result<()> {
-    let p = motzkin();
-    if n < 38 {
-        say::edge(rt, &p[0..n], 0)?;
-    }
-    Ok(())
+    say::edge(rt, motzkin().get(..n).unwrap_or_default(), 0)
 }
 
 fn lengths(rt: &impl Print) -> io::Result<()> {
-    say::text(rt, b"the pack cut: 0, 4, 27, 28, 31, 37 bytes\n")?;
-    cut(rt, 0)?;
-    cut(rt, 4)?;
-    cut(rt, 27)?;
-    cut(rt, 28)?;
-    cut(rt, 31)?;
-    cut(rt, 37)
+    println!(rt; "the pack cut: 0, 4, 27, 28, 31, 37 bytes")?;
+    for n in [0, 4, 27, 28, 31, 37] {
+        cut(rt, n)?;
+    }
+    Ok(())
 }
 
 // A bad edge goes before a bad i.
 fn both(rt: &impl Print) -> io::Result<()> {
     let mut p = motzkin();
-    say::text(rt, b"a bad edge beside a bad i, and a repeat asked of it\n")?;
+    println!(rt; "a bad edge beside a bad i, and a repeat asked of it")?;
     p[37] = b'E';
     say::edge(rt, &p, 2)?;
     say::repeat(rt, &p)

@@ -1,4 +1,6 @@
-// Blocks, and a pack.
+// Blocks, and packs.
+// kept: blocks as in examples, packs as in whole_examples: a library for them would have three times their lines, in contracts, relations and
+// what settles them.
 pub(crate) fn lettered(family: u8, n: u8, m: u8) -> [u8; 20] {
     [
         family, n, m, 0, 0, 0, 0, 0, 0, 0, 0, 0, 0, 0, 0, 0, 0, 0, 0, 0,

@@ -8,9 +8,8 @@ fn earlier<'a>(rt: &impl Print, a: &'a [u8], b: &'a [u8]) -> io::Result<()> {
 }
 
 fn two(rt: &impl Print) -> io::Result<()> {
-    say::text(
-        rt,
-        b"earlier of two Dyck edges: either way, equal, a bad first, a bad second, refused 4\n",
+    println!(rt;
+        "earlier of two Dyck edges: either way, equal, a bad first, a bad second, refused 4"
     )?;
     earlier(rt, b"EENENENN", b"ENEEENNN")?;
     earlier(rt, b"ENEEENNN", b"EENENENN")?;
@@ -31,7 +30,7 @@ fn plain_dip(rt: &impl Print, family: u8, n: u8, m: u8, edge: &[u8]) -> io::Resu
 }
 
 fn dips(rt: &impl Print) -> io::Result<()> {
-    say::text(rt, b"dips\n")?;
+    println!(rt; "dips")?;
     dip(rt, 6, 3, 1, b"133")?;
     dip(rt, 6, 3, 1, b"313")?;
     dip(rt, 6, 3, 1, b"331")?;

@@ -1,53 +1,23 @@
 // Answers as lines of text.
-use job::Built;
-use pack::{Parted, Repeats};
-use questions::{Dips, Which};
+use questions::Which;
 use std::io;
 
-pub(crate) fn text(rt: &impl Print, t: &[u8]) -> io::Result<()> {
-    rt.write_all(t)
-}
-
-fn decimal(rt: &impl Print, n: usize) -> io::Result<()> {
-    print!(rt; "{n}")
-}
-
-fn two(rt: &impl Print, word: &[u8], a: usize, b: usize) -> io::Result<()> {
-    text(rt, word)?;
-    decimal(rt, a)?;
-    text(rt, b" ")?;
-    decimal(rt, b)
-}
-
-fn refused(rt: &impl Print, number: u8) -> io::Result<()> {
-    text(rt, b"refused ")?;
-    decimal(rt, number as usize)
-}
-
-fn from_to(rt: &impl Print, start: usize, end: usize) -> io::Result<()> {
-    two(rt, b"from ", start, end)
-}
-
-// Where edge i stands, its bytes, and the partner's number.
-pub(crate) fn edge(rt: &impl Print, p: &[u8], i: usize) -> io::Result<()> {
-    match pack::part(p, i) {
-        Parted::Part(start, end) => from_to(rt, start, end)?,
-        Parted::Refused(r) => refused(rt, r)?,
+// Where edge i stands, its bytes, and the number of the call that only refuses.
+pub(crate) fn edge(rt: &impl Print, pack: &[u8], i: usize) -> io::Result<()> {
+    match pack::part(pack, i) {
+        Ok((start, end)) => print!(rt; "from {start} {end} [")?,
+        Err(refusal) => print!(rt; "refused {refusal} [")?,
     }
-    text(rt, b" [")?;
-    text(rt, pack::edge(p, i))?;
-    text(rt, b"] ")?;
-    decimal(rt, pack::edge_refusal(p, i) as usize)?;
-    text(rt, b"\n")
+    rt.write_all(pack::edge(pack, i))?;
+    println!(rt; "] {}", pack::edge_refusal(pack, i))
 }
 
-pub(crate) fn repeat(rt: &impl Print, p: &[u8]) -> io::Result<()> {
-    match pack::repeat(p) {
-        Repeats::At(later, earlier) => two(rt, b"repeat ", later, earlier)?,
-        Repeats::Never => text(rt, b"no repeat")?,
-        Repeats::Refused(r) => refused(rt, r)?,
+pub(crate) fn repeat(rt: &impl Print, pack: &[u8]) -> io::Result<()> {
+    match pack::repeat(pack) {
+        Ok(Some((later, earlier))) => println!(rt; "repeat {later} {earlier}"),
+        Ok(None) => println!(rt; "no repeat"),
+        Err(refusal) => println!(rt; "refused {refusal}"),
     }
-    text(rt, b"\n")
 }
 
 pub(crate) fn write(
@@ -57,13 +27,9 @@ pub(crate) fn write(
     out: &mut [u8],
 ) -> io::Result<()> {
     match packing::write(block, numbers, out) {
-        Built::Length(l) => {
-            text(rt, b"length ")?;
-            decimal(rt, l)?;
-        }
-        Built::Refused(r) => refused(rt, r)?,
+        Ok(length) => println!(rt; "length {length}"),
+        Err(refusal) => println!(rt; "refused {refusal}"),
     }
-    text(rt, b"\n")
 }
 
 pub(crate) fn earlier<'a>(
@@ -73,27 +39,19 @@ pub(crate) fn earlier<'a>(
     b: &'a [u8],
 ) -> io::Result<()> {
     match questions::compare(block, a, b) {
-        Which::First => text(rt, b"first")?,
-        Which::Second => text(rt, b"second")?,
-        Which::Refused(r) => refused(rt, r)?,
+        Ok(Which::First) => print!(rt; "first [")?,
+        Ok(Which::Second) => print!(rt; "second [")?,
+        Err(refusal) => print!(rt; "refused {refusal} [")?,
     }
-    text(rt, b" [")?;
-    text(rt, questions::earlier(block, a, b))?;
-    text(rt, b"] ")?;
-    decimal(rt, questions::earlier_refusal(block, a, b) as usize)?;
-    text(rt, b"\n")
+    rt.write_all(questions::earlier(block, a, b))?;
+    println!(rt; "] {}", questions::earlier_refusal(block, a, b))
 }
 
 pub(crate) fn dip(rt: &impl Print, block: &[u8], edge: &[u8]) -> io::Result<()> {
-    text(rt, edge)?;
-    text(rt, b" ")?;
+    rt.write_all(edge)?;
     match questions::dip(block, edge) {
-        Dips::At(i) => {
-            text(rt, b"dips at ")?;
-            decimal(rt, i)?;
-        }
-        Dips::Never => text(rt, b"never dips")?,
-        Dips::Refused(r) => refused(rt, r)?,
+        Ok(Some(i)) => println!(rt; " dips at {i}"),
+        Ok(None) => println!(rt; " never dips"),
+        Err(refusal) => println!(rt; " refused {refusal}"),
     }
-    text(rt, b"\n")
 }

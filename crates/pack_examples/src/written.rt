@@ -1,7 +1,7 @@
 // Packs written, and read back.
 use crate::jobs::{empty_edges, lettered, twins};
 use crate::say;
-use std::io;
+use std::{array, io};
 
 fn read_few(rt: &impl Print, pack: &[u8]) -> io::Result<()> {
     say::edge(rt, pack, 0)?;
@@ -14,19 +14,19 @@ fn read_few(rt: &impl Print, pack: &[u8]) -> io::Result<()> {
 
 fn few(rt: &impl Print) -> io::Result<()> {
     let mut out = [b'.'; 40];
-    say::text(rt, b"Motzkin 3, numbers 0 and 3\n")?;
+    println!(rt; "Motzkin 3, numbers 0 and 3")?;
     of_two(rt, 3, &mut out)?;
-    say::text(rt, &out[32..])?;
-    say::text(rt, b"\n")?;
+    rt.write_all(&out[32..])?;
+    println!(rt)?;
     read_few(rt, &out[0..38])
 }
 
 fn none(rt: &impl Print) -> io::Result<()> {
     let mut out = [b'.'; 30];
-    say::text(rt, b"no numbers\n")?;
+    println!(rt; "no numbers")?;
     say::write(rt, &lettered(5, 3, 3), &[], &mut out)?;
-    say::text(rt, &out[28..])?;
-    say::text(rt, b"\n")?;
+    rt.write_all(&out[28..])?;
+    println!(rt)?;
     say::edge(rt, &out[0..28], 0)?;
     say::repeat(rt, &out[0..28])
 }
@@ -39,24 +39,12 @@ fn pack_of(rt: &impl Print, numbers: &[u64]) -> io::Result<()> {
     say::repeat(rt, &out[0..1628])
 }
 
-// The job's twenty edges, again and again, c of them.
-fn many(rt: &impl Print, c: usize) -> io::Result<()> {
-    let mut numbers = [0u64; 256];
-    let mut i: usize = 0;
-    while i < 256 {
-        numbers[i] = (i % 20) as u64;
-        i += 1;
-    }
-    if c <= 256 {
-        pack_of(rt, &numbers[0..c])?;
-    }
-    Ok(())
-}
-
+// The job's twenty edges, again and again.
 fn full(rt: &impl Print) -> io::Result<()> {
-    say::text(rt, b"200 and 201 numbers\n")?;
-    many(rt, 200)?;
-    many(rt, 201)
+    let numbers: [u64; 201] = array::from_fn(|i| (i % 20) as u64);
+    println!(rt; "200 and 201 numbers")?;
+    pack_of(rt, &numbers[0..200])?;
+    pack_of(rt, &numbers)
 }
 
 // A pack of one edge, number 0.
@@ -71,20 +59,20 @@ fn of_two(rt: &impl Print, other: u64, out: &mut [u8]) -> io::Result<()> {
 
 fn refused(rt: &impl Print) -> io::Result<()> {
     let mut out = [b'.'; 37];
-    say::text(rt, b"refused, and nothing is written: 1, 2, 3, 4, 6, 7\n")?;
+    println!(rt; "refused, and nothing is written: 1, 2, 3, 4, 6, 7")?;
     of_one(rt, 8, 3, 3, &mut out)?;
     of_one(rt, 1, 65, 0, &mut out)?;
     say::write(rt, &twins(), &[0], &mut out)?;
     of_one(rt, 2, 37, 37, &mut out)?;
     of_two(rt, 4, &mut out)?;
     of_two(rt, 3, &mut out)?;
-    say::text(rt, &out)?;
-    say::text(rt, b"\n")
+    rt.write_all(&out)?;
+    println!(rt)
 }
 
 fn repeats(rt: &impl Print) -> io::Result<()> {
     let mut out = [b'.'; 48];
-    say::text(rt, b"A B B A, and empty edges\n")?;
+    println!(rt; "A B B A, and empty edges")?;
     say::write(rt, &lettered(5, 3, 3), &[0, 3, 3, 0], &mut out)?;
     say::repeat(rt, &out)?;
     say::edge(rt, &empty_edges(), 1)?;

@@ -17,7 +17,7 @@ use Rattle.rules.specs.Blocks.{block_length}
 use Rattle.rules.specs.Jobs.{Job}
 use Rattle.rules.specs.Counts.{count_of}
 use Rattle.rules.specs.Numbers.{edge_of}
-use Rattle.rules.specs.Refusals.{Answer, and_then, refusal_number}
+use Rattle.rules.specs.Refusals.{Answer, and_then}
 use Rattle.rules.specs.Refusals.Refusal.{many}
 use Rattle.rules.specs.Refusals.Answer.{accepted, refused}
 use Rattle.rules.specs.Answers.{known_job, count_answer, written}
@@ -27,17 +27,15 @@ use Rattle.rules.proofs.Answering.{edges-told}
 use Rattle.rules.proofs.Demand3.{then_passed}
 use Rattle.rules.proofs.Hence.{known-job}
 use Rattle.rules.proofs.Packed.{whole-block, edges-of}
-use Rattle.job.specs.Replies.{reply, count_says, build_says, BuiltAs}
-use Rattle.job.specs.Replies.Reply.{value, refusal}
-use Rattle.job.specs.declared.Built.{Built}
-use Rattle.job.specs.declared.Built.TheVariants.{Length, Refused}
-use Rattle.job.specs.declared.Counted.{Counted}
-use Rattle.job.specs.declared.Counted.TheVariants.{Count, Refused as CountRefused}
+use Rattle.std.specs.Prelude.{Result, Ok, Err}
+use Rattle.job.specs.declared.Refusal.{Refusal}
+use Rattle.job.specs.declared.Refusal.TheVariants.{Many}
+use Rattle.job.specs.Replies.{reply, BuiltAs}
 use Rattle.job.proofs.Says.{value-one, value_not}
-use Rattle.lines.specs.declared.Wrote.{Wrote}
-use Rattle.lines.specs.Lines.{Room, ends_from, lined, lines, LinedAs, built_of, WroteAs}
+use Rattle.lines.specs.declared.Unanswered.{Unanswered}
+use Rattle.lines.specs.Lines.{Room, ends_from, lined, lines, LinedAs, refusal_for, WroteAs}
 use Rattle.lines.proofs.Lining.{lines-built, length-ends}
-use Rattle.packing.specs.Packing.{front_of, offsets_of, pack_from, Packed, too_many, TooMany}
+use Rattle.packing.specs.Packing.{front_of, offsets_of, pack_from, too_many, TooMany}
 
 -- ---- the number of numbers
 
@@ -50,27 +48,27 @@ module _ (b ns : List ℕ) where
   unfolding packed_answer
   packed-many l = rw (lt-leb (length ns) 200 l) refl
 
-  pub many-built : (out : List ℕ) (r : Built) → 200 < length ns → TooMany b r → BuiltAs (pack_answer b ns out) r out
+  pub many-built : (out : List ℕ) (r : Result ℕ Refusal) → 200 < length ns → TooMany b r → BuiltAs (pack_answer b ns out) r out
   unfolding written
   many-built out r l t = rw (pack-is out, packed-many l) (go (known_job b) t)
     where
-      go : (a : Answer Job) → build_says r ≡ reply {A = ℕ} (and_then a (λ J. refused many)) → BuiltAs (written (and_then a (λ J. refused many)) out) r out
+      go : (a : Answer Job) → r ≡ reply {A = ℕ} (and_then a (λ J. refused many)) → BuiltAs (written (and_then a (λ J. refused many)) out) r out
       go (accepted J) h = record { says = h; output = refl }
       go (refused x) h = record { says = h; output = refl }
 
-  pub many-known : (x : Counted) (v : ℕ) → x ≡ Count v → count_says x ≡ reply (count_answer b) → refusal 10 ≡ reply (too_many b)
-  unfolding count_answer refusal_number
-  many-known x v e h = go (known_job b) (sym (ap count_says e) ∙ h)
+  pub many-known : (v : ℕ) → Ok v ≡ reply (count_answer b) → Err Many ≡ reply (too_many b)
+  unfolding count_answer
+  many-known v h = go (known_job b) h
     where
-      go : (a : Answer Job) → value v ≡ reply (and_then a (λ J. accepted (count_of J))) → refusal 10 ≡ reply {A = ℕ} (and_then a (λ J. refused many))
+      go : (a : Answer Job) → Ok v ≡ reply (and_then a (λ J. accepted (count_of J))) → Err Many ≡ reply {A = ℕ} (and_then a (λ J. refused many))
       go (accepted J) q = refl
       go (refused y) q = absurd (value_not q)
 
-  pub many-told : (x : Counted) (r : ℕ) → x ≡ CountRefused r → count_says x ≡ reply (count_answer b) → refusal r ≡ reply (too_many b)
+  pub many-told : (r : Refusal) → Err r ≡ reply (count_answer b) → Err r ≡ reply (too_many b)
   unfolding count_answer
-  many-told x r e h = go (known_job b) (sym (ap count_says e) ∙ h)
+  many-told r h = go (known_job b) h
     where
-      go : (a : Answer Job) → refusal r ≡ reply (and_then a (λ J. accepted (count_of J))) → refusal r ≡ reply {A = ℕ} (and_then a (λ J. refused many))
+      go : (a : Answer Job) → Err r ≡ reply (and_then a (λ J. accepted (count_of J))) → Err r ≡ reply {A = ℕ} (and_then a (λ J. refused many))
       go (accepted J) q = absurd (value_not (sym q))
       go (refused y) q = q
 
@@ -127,15 +125,17 @@ pub record Whole (b ns s t : List ℕ) (n : ℕ) : Type 0 where
   pub steps : take n s ≡ joined edges
   pub many : length ns ≤ length t
   pub ends : take (length ns) t ≡ ends_from 0 edges
-  pub packed : Packed b (take (length ns) t) (take n s)
+  pub whole : length b ≡ block_length
+  pub few : length (take (length ns) t) ≤ 200
+  pub short : length (take n s) ≤ 25600
+  pub within : (i : ℕ) → i < length (take (length ns) t) → get_or (take (length ns) t) i 0 ≤ 25600
 
 module _ (b ns steps ends : List ℕ) (room : Room (length ns) (length steps) (length ends)) (few : length ns ≤ 200) where
-  pub whole_of : (v : Wrote) (x : Built) (n : ℕ) (s t : List ℕ) → x ≡ built_of v → x ≡ Length n → WroteAs (lines (edges_answer b ns) ns steps ends) v s t → length s ≤ 25600
-      → Whole b ns s t n
+  pub whole_of : (n : ℕ) (s t : List ℕ) → WroteAs (lines (edges_answer b ns) ns steps ends) (Ok n) s t → length s ≤ 25600 → Whole b ns s t n
   unfolding lined
-  whole_of v x n s t e q w short = go (edges_answer b ns) refl (rw q at (lines-built (edges_answer b ns) ns steps ends v x s t room e w))
+  whole_of n s t w short = go (edges_answer b ns) refl (lines-built (edges_answer b ns) ns steps ends (Ok n) (Ok n) s t room refl w)
     where
-      go : (a : Answer (List (List ℕ))) → edges_answer b ns ≡ a → LinedAs (lined a steps ends) (Length n) s t → Whole b ns s t n
+      go : (a : Answer (List (List ℕ))) → edges_answer b ns ≡ a → LinedAs (lined a steps ends) (Ok n) s t → Whole b ns s t n
       go (refused y) e v = absurd (value_not v.says)
       go (accepted es) e v =
           let long : n ≡ length (joined es) = value-one v.says in
@@ -152,25 +152,24 @@ module _ (b ns steps ends : List ℕ) (room : Room (length ns) (length steps) (l
             steps = S;
             many = omega (arith, ap length v.places, length-append (ends_from 0 es) (drop (length es) ends));
             ends = E;
-            packed = record {
-              whole = whole;
-              few = omega arith;
-              short = omega (arith, ap length S);
-              within = λ i h. omega (arith, ap (λ (l : List ℕ). get_or l i 0) E, ends-within 0 es i (omega arith));
-            };
+            whole = whole;
+            few = omega arith;
+            short = omega (arith, ap length S);
+            within = λ i h. omega (arith, ap (λ (l : List ℕ). get_or l i 0) E, ends-within 0 es i (omega arith));
           }
 
-  pub whole-built : (n : ℕ) (s t : List ℕ) → Whole b ns s t n → (out after : List ℕ) (y : Built)
+  pub whole-built : (n : ℕ) (s t : List ℕ) → Whole b ns s t n → (out after : List ℕ) (y : Result ℕ Refusal)
       → BuiltAs (written (accepted (pack_from b (take (length ns) t) (take n s))) out) y after → BuiltAs (pack_answer b ns out) y after
   whole-built n s t w out after y h =
       let p : pack_from b (take (length ns) t) (take n s) ≡ pack_bytes b w.edges = ap₂ (pack_from b) w.ends w.steps ∙ from-ends b w.edges in
       rw (pack-is b ns out, packed-few b ns few, w.answer, sym p) h
 
-  pub whole-refused : (v : Wrote) (x : Built) (r : ℕ) (s t out : List ℕ) → x ≡ built_of v → x ≡ Refused r → WroteAs (lines (edges_answer b ns) ns steps ends) v s t → BuiltAs (pack_answer b ns out) (Refused r) out
+  pub whole-refused : (y : Unanswered) (s t out : List ℕ) → WroteAs (lines (edges_answer b ns) ns steps ends) (Err y) s t → BuiltAs (pack_answer b ns out) (Err (refusal_for y)) out
   unfolding lined written
-  whole-refused v x r s t out e q w =
-      rw (pack-is b ns out, packed-few b ns few) (go (edges_answer b ns) (rw q at (lines-built (edges_answer b ns) ns steps ends v x s t room e w)))
+  whole-refused y s t out w =
+      rw (pack-is b ns out, packed-few b ns few)
+      (go (edges_answer b ns) (lines-built (edges_answer b ns) ns steps ends (Err y) (Err (refusal_for y)) s t room refl w))
     where
-      go : (a : Answer (List (List ℕ))) → LinedAs (lined a steps ends) (Refused r) s t → BuiltAs (written (and_then a (λ es. accepted (pack_bytes b es))) out) (Refused r) out
+      go : (a : Answer (List (List ℕ))) → LinedAs (lined a steps ends) (Err (refusal_for y)) s t → BuiltAs (written (and_then a (λ es. accepted (pack_bytes b es))) out) (Err (refusal_for y)) out
       go (accepted es) v = absurd (value_not (sym v.says))
-      go (refused y) v = record { says = v.says; output = refl }
+      go (refused x) v = record { says = v.says; output = refl }

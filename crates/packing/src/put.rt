@@ -1,12 +1,13 @@
 // The parts of a pack, put to a lent output that has room for them.
-ghost use Rattle.std.specs.Prelude.{◌≡◌, ◌+◌, ◌*◌, ◌≤◌, ◌<◌, length};
+ghost use Rattle.std.specs.Prelude.{◌≡◌, ℕ, ◌+◌, ◌≤◌, ◌<◌, length, slice_index};
+ghost use Rattle.rules.specs.Blocks.{block_length};
 ghost use Rattle.rules.specs.Refusals.Answer.{accepted};
 ghost use Rattle.rules.specs.Answers.{written};
 ghost use Rattle.rules.specs.Packs.{shortest, two};
 ghost use Rattle.job.specs.Replies.{BuiltAs};
-ghost use Rattle.packing.specs.Packing.{pasted, front_of, offsets_of, pack_from, Packed, Headed, Places};
+ghost use Rattle.packing.specs.Packing.{pasted, first_of, front_of, offsets_of, pack_from};
 
-use job::Built;
+use job::Refusal;
 use pack::Pack;
 
 // The bytes s, from place `at` on.
@@ -14,7 +15,7 @@ fn put_bytes(out: &mut [u8], at: usize, s: &[u8])
     requires { at + length s.now ≤ length out.old }
     ensures { out.new ≡ pasted out.old at s.now }
 {
-    job::put(s, &mut out[at..]);
+    out[at..at + s.len()].copy_from_slice(s);
 }
 
 // "Little-endian": v as two bytes, from place `at` on.
@@ -22,45 +23,64 @@ fn put_two(out: &mut [u8], at: usize, v: usize)
     requires { (at + 2 ≤ length out.old) × (v < 65536) }
     ensures { out.new ≡ pasted out.old at (two v) }
 {
-    out[at] = (v % 256) as u8;
-    out[at + 1] = (v / 256) as u8;
+    let two = (v as u16).to_le_bytes();
+    put_bytes(out, at, &two);
 }
 
-// The mark, the block, the count c, and the first offset.
-fn put_front(out: &mut [u8], block: &[u8], c: usize)
-    requires { Headed out.old block.now c }
-    ensures { out.new ≡ pasted out.old 0 (front_of block.now c) }
-{
-    put_bytes(out, 0, &Pack::MARK);
-    put_bytes(out, Pack::BLOCK, block);
-    put_two(out, Pack::COUNT, c);
-    put_two(out, Pack::OFFSETS, Pack::SHORTEST + 2 * c);
+// The parts of a pack of edges that are lined up: the job block, where each edge ends, and the steps of all.
+#[derive(Clone, Copy)]
+pub(crate) struct Parts<'a> {
+    pub(crate) block: &'a [u8],
+    pub(crate) ends: &'a [usize],
+    pub(crate) steps: &'a [u8],
+    ghost whole: { length block.now ≡ block_length },
+    ghost few: { length ends.now ≤ 200 },
+    ghost short: { length steps.now ≤ 25600 },
+    ghost within: { (i : ℕ) → i < length ends.now → slice_index ends.now i ≤ 25600 },
 }
 
-// The other offsets: where each edge ends.
-fn put_offsets(out: &mut [u8], first: usize, ends: &[usize])
-    requires { Places out.old first ends.now }
-    ensures { out.new ≡ pasted out.old shortest (offsets_of first ends.now) }
-{
-    let mut i: usize = 0;
-    while i < ends.len() {
-        put_two(out, Pack::SHORTEST + 2 * i, first + ends[i]);
-        i += 1;
+impl<'a> Parts<'a> {
+    // "The first offset is 28+2c".
+    fn first(&self) -> usize
+        ensures { result ≡ first_of self.now.ends.now }
+    {
+        Pack::SHORTEST + 2 * self.ends.len()
     }
-}
 
-// "7 Room", or the whole pack of the edges whose steps these are and which end there.
-pub(crate) fn put_pack(block: &[u8], ends: &[usize], steps: &[u8], out: &mut [u8]) -> Built
-    requires { Packed block.now ends.now steps.now }
-    ensures { BuiltAs (written (accepted (pack_from block.now ends.now steps.now)) out.old) result out.new }
-{
-    let first = Pack::SHORTEST + 2 * ends.len();
-    let len = first + steps.len();
-    if out.len() < len {
-        return Built::Refused(7);
+    // The mark, the block, the edge count, and the first offset.
+    fn put_front(&self, out: &mut [u8])
+        requires { shortest ≤ length out.old }
+        ensures { out.new ≡ pasted out.old 0 (front_of self.now.block.now (length self.now.ends.now)) }
+    {
+        put_bytes(out, 0, &Pack::MARK);
+        put_bytes(out, Pack::BLOCK, self.block);
+        put_two(out, Pack::COUNT, self.ends.len());
+        put_two(out, Pack::OFFSETS, self.first());
     }
-    put_front(out, block, ends.len());
-    put_offsets(out, first, ends);
-    put_bytes(out, first, steps);
-    Built::Length(len)
+
+    // The other offsets: where each edge ends.
+    fn put_offsets(&self, out: &mut [u8])
+        requires { first_of self.now.ends.now ≤ length out.old }
+        ensures { out.new ≡ pasted out.old shortest (offsets_of (first_of self.now.ends.now) self.now.ends.now) }
+    {
+        let first = self.first();
+        for (i, end) in self.ends.iter().enumerate() {
+            put_two(out, Pack::SHORTEST + 2 * i, first + *end);
+        }
+    }
+
+    // "7 Room", or the whole pack.
+    pub(crate) fn put(&self, out: &mut [u8]) -> Result<usize, Refusal>
+        ensures { BuiltAs (written (accepted (pack_from self.now.block.now self.now.ends.now self.now.steps.now)) out.old) result out.new }
+    {
+        let first = self.first();
+        let len = first + self.steps.len();
+        if out.len() < len {
+            return Err(Refusal::Room);
+        }
+        self.put_front(out);
+        self.put_offsets(out);
+        put_bytes(out, first, self.steps);
+        Ok(len)
+    }
 }

@@ -1,3 +1,3 @@
 pub mod Ends
-pub mod Wraps
+pub mod Overs
 pub mod Rows

@@ -1,22 +1,20 @@
 -- A row of counts, made from the one before it in place. Assumes nothing.
 --
 --   picked-yes, picked_no            what the third step brings, by the test
---   le-more, place-.., next-.., less-fits, left_less, one_on, at_last    numbers of the loops
 --   Between            of the row of j the counts before i are those of the row of j + 1 by now; sum and before are the last ones
 --   between_start, between_next, between-over    at the start, one count more, and where one doesn't fit
 --   row-all, row-over  what is left after the last, or where one doesn't fit
 --   first-row, first_fits, row_last    the row of 0, and a row's last count
 --   over-says, count-says, over-later, turned-says    the answer
-use Rattle.std.proofs.Common.{◌≡◌, ℕ, ◌+◌, ◌-◌, ◌*◌, ◌^◌, ◌<◌, ◌≤◌, Bool, true, false, T, List, length, get_or, set, replicate, sym, refl, ap, ◌∙◌, subst, le_trans, le_refl, arith, get_or-set_other, get_or-set_same, le-leb}
+use Rattle.std.proofs.Common.{◌≡◌, ℕ, ◌+◌, ◌-◌, ◌^◌, ◌<◌, ◌≤◌, Bool, true, false, T, List, length, get_or, set, replicate, sym, refl, ap, ◌∙◌, subst, le_trans, le_refl, arith, get_or-set_other, get_or-set_same, le-leb}
 use native.Mathlib.Decide.{ℕ_discrete}
 use lib.ListN.{get_or-replicate}
 use Rattle.howmany.specs.Choose.{pick}
 use borrow.Author.Tests.{lt-leb}
-use Rattle.rules.specs.Refusals.{refusal_number}
 use Rattle.rules.specs.Answers.{most}
-use Rattle.job.specs.Replies.{reply, count_says}
-use Rattle.job.specs.Replies.Reply.{value}
-use Rattle.job.specs.declared.Counted.TheVariants.{Count, Refused}
+use Rattle.job.specs.Replies.{reply}
+use Rattle.std.specs.Prelude.{Ok, Err}
+use Rattle.job.specs.declared.Refusal.TheVariants.{Over}
 use Rattle.plains.specs.Plains.{ends, plain_answer, Row, NextRow}
 use Rattle.plains.proofs.Ends.{ends-none, ends-rim, ends_next, ends-most, ends_turned}
 
@@ -25,45 +23,6 @@ picked-yes d x b e g = rw e g
 
 pub picked_no : (d : Bool) (x b : ℕ) → d ≡ false → b ≡ 0 → b ≡ pick d x 0
 picked_no d x b e g = rw e g
-
-pub le-more : (k a b : ℕ) → k ≤ a → k ≤ a + b
-le-more k a b h = omega arith
-
-pub le-more-left : (n : ℕ) → 1 ≤ n + 1
-le-more-left n = omega arith
-
-pub in_long : (i k l : ℕ) → k ≡ l → i < l → i < k
-in_long i k l e h = omega arith
-
--- ---- the numbers of the loop
-module _ (i n : ℕ) (l : i ≤ n) (h : n ≤ 33) where
-  pub place_in : i < 34
-  place_in = omega arith
-
-  pub place-fits : i * 8 < 2 ^ 64
-  place-fits = omega arith
-
-  pub next_fits : i + 1 < 2 ^ 64
-  next_fits = omega arith
-
-  pub next-less : n + 1 - (i + 1) < n + 1 - i
-  next-less = omega arith
-
-  pub next_le : i + 1 ≤ n + 1
-  next_le = omega arith
-
-module _ (j m : ℕ) (l : j < m) where
-  pub less-fits : m < 2 ^ 64 → j + 1 < 2 ^ 64
-  less-fits h = omega arith
-
-  pub left_less : m - (j + 1) < m - j
-  left_less = omega arith
-
-  pub one_on : j + 1 ≤ m
-  one_on = omega arith
-
-pub at_last : (j m : ℕ) → j ≤ m → m ≤ j → j ≡ m
-at_last j m l h = omega arith
 
 -- ---- along a row
 pub record Between (d : Bool) (n j i : ℕ) (l : List ℕ) (sum before : ℕ) : Type 0 where
@@ -130,14 +89,13 @@ unfolding Row
 row_last d n j l r = r n (le_refl n)
 
 -- ---- all rows
-pub over-says : (d : Bool) (n m : ℕ) → 2 ^ 64 ≤ ends d n m → count_says (Refused 4) ≡ reply (plain_answer d n m)
-unfolding refusal_number
+pub over-says : (d : Bool) (n m : ℕ) → 2 ^ 64 ≤ ends d n m → Err Over ≡ reply (plain_answer d n m)
 over-says d n m h = rw (lt-leb (ends d n m) most (omega arith)) refl
 
-pub count-says : (d : Bool) (n m j c : ℕ) → j ≡ m → c ≡ ends d n j → ends d n j < 2 ^ 64 → count_says (Count c) ≡ reply (plain_answer d n m)
+pub count-says : (d : Bool) (n m j c : ℕ) → j ≡ m → c ≡ ends d n j → ends d n j < 2 ^ 64 → Ok c ≡ reply (plain_answer d n m)
 count-says d n m j c e g l =
     let q : ends d n j ≡ ends d n m = ap (ends d n) e in
-    rw (le-leb (ends d n m) most (omega arith)) (ap value (g ∙ q))
+    rw (le-leb (ends d n m) most (omega arith)) (ap Ok (g ∙ q))
 
 pub over-later : (d : Bool) (n m j : ℕ) → j < m → 2 ^ 64 ≤ ends d n (j + 1) → 2 ^ 64 ≤ ends d n m
 over-later d n m j l h = le_trans h (ends-most d n (j + 1) n m (le_refl n) (omega arith))

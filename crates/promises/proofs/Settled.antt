@@ -6,8 +6,6 @@ use mathlib.Core.Bool.{Bool}
 use mathlib.Core.List.{List}
 use Prim.Native.Nat.{ℕ}
 use denote.Ref.{Bor}
-use Rattle.rules.specs.Blocks.{family_of, plain, square, paired}
-use Rattle.rules.specs.Answers.{count_answer}
 use Rattle.rules.specs.Questions.{second_answer, part_answer}
 use Rattle.job.specs.Meets as job
 use Rattle.lines.specs.Meets as lines
@@ -23,26 +21,15 @@ use Rattle.pack.specs.Meets as pack
 use Rattle.packing.specs.Meets as packing
 use Rattle.listing.specs.Meets as listing
 use Rattle.edges.specs.Meets as edges
-use Rattle.lines.specs.declared.Building.{Building}
-use Rattle.job.specs.declared.Built.{Built}
-use Rattle.walks.specs.declared.Checked.{Checked}
-use Rattle.job.specs.declared.Counted.{Counted}
-use Rattle.lines.specs.declared.Counting.{Counting}
-use Rattle.questions.specs.declared.Dips.{Dips}
-use Rattle.job.specs.declared.Made.{Made}
-use Rattle.job.specs.declared.Numbered.{Numbered}
-use Rattle.lines.specs.declared.Numbering.{Numbering}
-use Rattle.pack.specs.declared.Numbers.{Numbers}
-use Rattle.pack.specs.declared.Parted.{Parted}
-use Rattle.lines.specs.declared.Ranked.{Ranked}
-use Rattle.pack.specs.declared.Repeats.{Repeats}
-use Rattle.job.specs.declared.Sized.{Sized}
-use Rattle.walks.specs.declared.Walked.{Walked}
+use Rattle.std.specs.Prelude.{Option, Result}
+use Rattle.job.specs.declared.Job.{Job}
+use Rattle.job.specs.declared.Refusal.{Refusal}
+use Rattle.lines.specs.declared.Unanswered.{Unanswered}
+use Rattle.pack.specs.declared.Fault.{Fault}
 use Rattle.questions.specs.declared.Which.{Which}
-use Rattle.lines.specs.declared.Wrote.{Wrote}
-use Rattle.promises.proofs.One.{Alike, building_one, built-one, checked_one, counted-one, counting_one, dips-one, edge-one, equal_one, handed_one, listed-one, numbered-one, numbering-one, part-one, parted_one, ranked-one, repeats-one, seen-dip-one, seen-numbers-one, seen_one, seen-part-one, seen-repeat-one, seen-second-one, seen_write_one, sized-one, walked_one, which-one, wrote_one}
+use Rattle.promises.proofs.One.{Alike, building_one, built-one, edge-one, equal_one, handed_one, listed-one, numbering-one, part-one, ranked-one, seen-dip-one, seen-numbers-one, seen_one, seen-part-one, seen-repeat-one, seen-second-one, seen_write_one, wrote_one}
 
-pub job-put-one : (edge : List ℕ) (out : List ℕ) (r s : Built) (out-after out-next : List ℕ) → job.PutMeets edge out r out-after → job.PutMeets edge out s out-next
+pub job-put-one : (edge : List ℕ) (out : List ℕ) (r s : Result ℕ Refusal) (out-after out-next : List ℕ) → job.PutMeets edge out r out-after → job.PutMeets edge out s out-next
     → (r ≡ s) × (out-after ≡ out-next)
 job-put-one edge out r s out-after out-next p q = built-one _ r s _ _ p q
 
@@ -70,7 +57,7 @@ pub job-is-paired-one : (family : ℕ) (r s : Bool) → job.IsPairedMeets family
     → r ≡ s
 job-is-paired-one family r s p q = equal_one _ r s p q
 
-pub job-of-one : (block : List ℕ) (r s : Made) → job.JobOfMeets block r → job.JobOfMeets block s
+pub job-of-one : (block : List ℕ) (r s : Result Job Refusal) → job.JobOfMeets block r → job.JobOfMeets block s
     → r ≡ s
 job-of-one block r s p q = equal_one _ r s p q
 
@@ -90,81 +77,81 @@ pub letters_ordinal_of-one : (lettered : Bool) (b : ℕ) (r s : ℕ) → letters
     → r ≡ s
 letters_ordinal_of-one lettered b r s p q = equal_one _ r s p q
 
-pub walks-walk-one : (block : List ℕ) (edge : List ℕ) (r s : Walked) → walks.WalkMeets block edge r → walks.WalkMeets block edge s
+pub walks-walk-one : (block : List ℕ) (edge : List ℕ) (r s : Result (Option ℕ) Refusal) → walks.WalkMeets block edge r → walks.WalkMeets block edge s
     → r ≡ s
-walks-walk-one block edge r s p q = walked_one _ r s p q
+walks-walk-one block edge r s p q = equal_one _ r s p q
 
-pub walks-walk-all-one : (block : List ℕ) (bytes : List ℕ) (from : ℕ) (ends : List ℕ) (r s : Checked) → walks.WalkAllMeets block bytes from ends r → walks.WalkAllMeets block bytes from ends s
+pub walks-walk-all-one : (block : List ℕ) (bytes : List ℕ) (from : ℕ) (ends : List ℕ) (r s : Result (Option (ℕ × ℕ)) Refusal) → walks.WalkAllMeets block bytes from ends r → walks.WalkAllMeets block bytes from ends s
     → r ≡ s
-walks-walk-all-one block bytes from ends r s p q = checked_one _ r s p q
+walks-walk-all-one block bytes from ends r s p q = equal_one _ r s p q
 
-pub plains_count-one : (n : ℕ) (m : ℕ) (diagonal : Bool) (r s : Counted) → plains.CountMeets n m diagonal r → plains.CountMeets n m diagonal s
+pub plains_count-one : (n : ℕ) (m : ℕ) (diagonal : Bool) (r s : Result ℕ Refusal) → plains.CountMeets n m diagonal r → plains.CountMeets n m diagonal s
     → r ≡ s
-plains_count-one n m diagonal r s p q = counted-one _ r s p q
+plains_count-one n m diagonal r s p q = equal_one _ r s p q
 
-pub arch-count-one : (block : List ℕ) (r s : Counting) → arch.CountMeets block r → arch.CountMeets block s
+pub arch-count-one : (block : List ℕ) (r s : Option (Result ℕ Refusal)) → arch.CountMeets block r → arch.CountMeets block s
     → r ≡ s
-arch-count-one block r s p q = counting_one (square (family_of block)) (count_answer block) r s p q
+arch-count-one block r s p q = equal_one _ r s p q
 
-pub arch-number-all-one : (block : List ℕ) (bytes : List ℕ) (from : ℕ) (ends : List ℕ) (numbers : List ℕ) (r s : Numbering) (numbers_after numbers-next : List ℕ) → arch.NumberAllMeets block bytes from ends numbers r numbers_after → arch.NumberAllMeets block bytes from ends numbers s numbers-next
+pub arch-number-all-one : (block : List ℕ) (bytes : List ℕ) (from : ℕ) (ends : List ℕ) (numbers : List ℕ) (r s : Option (Result ℕ Unanswered)) (numbers_after numbers-next : List ℕ) → arch.NumberAllMeets block bytes from ends numbers r numbers_after → arch.NumberAllMeets block bytes from ends numbers s numbers-next
     → (r ≡ s) × (numbers_after ≡ numbers-next)
 arch-number-all-one block bytes from ends numbers r s numbers_after numbers-next p q = numbering-one _ _ r s _ _ _ p q
 
-pub arch-build-all-one : (block : List ℕ) (numbers : List ℕ) (steps : List ℕ) (ends : List ℕ) (r s : Building) (steps-after steps_next : List ℕ) (ends-after Ends-next : List ℕ) → arch.BuildAllMeets block numbers steps ends r steps-after ends-after → arch.BuildAllMeets block numbers steps ends s steps_next Ends-next
+pub arch-build-all-one : (block : List ℕ) (numbers : List ℕ) (steps : List ℕ) (ends : List ℕ) (r s : Option (Result ℕ Unanswered)) (steps-after steps_next : List ℕ) (ends-after Ends-next : List ℕ) → arch.BuildAllMeets block numbers steps ends r steps-after ends-after → arch.BuildAllMeets block numbers steps ends s steps_next Ends-next
     → (r ≡ s) × (steps-after ≡ steps_next) × (ends-after ≡ Ends-next)
 arch-build-all-one block numbers steps ends r s steps-after steps_next ends-after Ends-next p q = building_one _ _ r s _ _ _ _ _ _ p q
 
-pub rows-count-one : (block : List ℕ) (r s : Counting) → rows.CountMeets block r → rows.CountMeets block s
+pub rows-count-one : (block : List ℕ) (r s : Option (Result ℕ Refusal)) → rows.CountMeets block r → rows.CountMeets block s
     → r ≡ s
-rows-count-one block r s p q = counting_one (plain (family_of block)) (count_answer block) r s p q
+rows-count-one block r s p q = equal_one _ r s p q
 
-pub rows-number-all-one : (block : List ℕ) (bytes : List ℕ) (from : ℕ) (ends : List ℕ) (numbers : List ℕ) (r s : Numbering) (numbers_after numbers-next : List ℕ) → rows.NumberAllMeets block bytes from ends numbers r numbers_after → rows.NumberAllMeets block bytes from ends numbers s numbers-next
+pub rows-number-all-one : (block : List ℕ) (bytes : List ℕ) (from : ℕ) (ends : List ℕ) (numbers : List ℕ) (r s : Option (Result ℕ Unanswered)) (numbers_after numbers-next : List ℕ) → rows.NumberAllMeets block bytes from ends numbers r numbers_after → rows.NumberAllMeets block bytes from ends numbers s numbers-next
     → (r ≡ s) × (numbers_after ≡ numbers-next)
 rows-number-all-one block bytes from ends numbers r s numbers_after numbers-next p q = numbering-one _ _ r s _ _ _ p q
 
-pub rows-build-all-one : (block : List ℕ) (numbers : List ℕ) (steps : List ℕ) (ends : List ℕ) (r s : Building) (steps-after steps_next : List ℕ) (ends-after Ends-next : List ℕ) → rows.BuildAllMeets block numbers steps ends r steps-after ends-after → rows.BuildAllMeets block numbers steps ends s steps_next Ends-next
+pub rows-build-all-one : (block : List ℕ) (numbers : List ℕ) (steps : List ℕ) (ends : List ℕ) (r s : Option (Result ℕ Unanswered)) (steps-after steps_next : List ℕ) (ends-after Ends-next : List ℕ) → rows.BuildAllMeets block numbers steps ends r steps-after ends-after → rows.BuildAllMeets block numbers steps ends s steps_next Ends-next
     → (r ≡ s) × (steps-after ≡ steps_next) × (ends-after ≡ Ends-next)
 rows-build-all-one block numbers steps ends r s steps-after steps_next ends-after Ends-next p q = building_one _ _ r s _ _ _ _ _ _ p q
 
-pub grid-count-one : (block : List ℕ) (r s : Counting) → grid.CountMeets block r → grid.CountMeets block s
+pub grid-count-one : (block : List ℕ) (r s : Option (Result ℕ Refusal)) → grid.CountMeets block r → grid.CountMeets block s
     → r ≡ s
-grid-count-one block r s p q = counting_one (paired (family_of block)) (count_answer block) r s p q
+grid-count-one block r s p q = equal_one _ r s p q
 
-pub grid-number-all-one : (block : List ℕ) (bytes : List ℕ) (from : ℕ) (ends : List ℕ) (numbers : List ℕ) (r s : Numbering) (numbers_after numbers-next : List ℕ) → grid.NumberAllMeets block bytes from ends numbers r numbers_after → grid.NumberAllMeets block bytes from ends numbers s numbers-next
+pub grid-number-all-one : (block : List ℕ) (bytes : List ℕ) (from : ℕ) (ends : List ℕ) (numbers : List ℕ) (r s : Option (Result ℕ Unanswered)) (numbers_after numbers-next : List ℕ) → grid.NumberAllMeets block bytes from ends numbers r numbers_after → grid.NumberAllMeets block bytes from ends numbers s numbers-next
     → (r ≡ s) × (numbers_after ≡ numbers-next)
 grid-number-all-one block bytes from ends numbers r s numbers_after numbers-next p q = numbering-one _ _ r s _ _ _ p q
 
-pub grid-build-all-one : (block : List ℕ) (numbers : List ℕ) (steps : List ℕ) (ends : List ℕ) (r s : Building) (steps-after steps_next : List ℕ) (ends-after Ends-next : List ℕ) → grid.BuildAllMeets block numbers steps ends r steps-after ends-after → grid.BuildAllMeets block numbers steps ends s steps_next Ends-next
+pub grid-build-all-one : (block : List ℕ) (numbers : List ℕ) (steps : List ℕ) (ends : List ℕ) (r s : Option (Result ℕ Unanswered)) (steps-after steps_next : List ℕ) (ends-after Ends-next : List ℕ) → grid.BuildAllMeets block numbers steps ends r steps-after ends-after → grid.BuildAllMeets block numbers steps ends s steps_next Ends-next
     → (r ≡ s) × (steps-after ≡ steps_next) × (ends-after ≡ Ends-next)
 grid-build-all-one block numbers steps ends r s steps-after steps_next ends-after Ends-next p q = building_one _ _ r s _ _ _ _ _ _ p q
 
-pub calls_count-one : (block : List ℕ) (r s : Counted) → calls.CountMeets block r → calls.CountMeets block s
+pub calls_count-one : (block : List ℕ) (r s : Result ℕ Refusal) → calls.CountMeets block r → calls.CountMeets block s
     → r ≡ s
-calls_count-one block r s p q = counted-one _ r s p q
+calls_count-one block r s p q = equal_one _ r s p q
 
-pub calls_width_one : (block : List ℕ) (r s : Sized) → calls.WidthMeets block r → calls.WidthMeets block s
+pub calls_width_one : (block : List ℕ) (r s : Result ℕ Refusal) → calls.WidthMeets block r → calls.WidthMeets block s
     → r ≡ s
-calls_width_one block r s p q = sized-one _ r s p q
+calls_width_one block r s p q = equal_one _ r s p q
 
-pub calls_number-all-one : (block : List ℕ) (bytes : List ℕ) (from : ℕ) (ends : List ℕ) (numbers : List ℕ) (r s : Ranked) (numbers_after numbers-next : List ℕ) → calls.NumberAllMeets block bytes from ends numbers r numbers_after → calls.NumberAllMeets block bytes from ends numbers s numbers-next
+pub calls_number-all-one : (block : List ℕ) (bytes : List ℕ) (from : ℕ) (ends : List ℕ) (numbers : List ℕ) (r s : Result ℕ Unanswered) (numbers_after numbers-next : List ℕ) → calls.NumberAllMeets block bytes from ends numbers r numbers_after → calls.NumberAllMeets block bytes from ends numbers s numbers-next
     → (r ≡ s) × (numbers_after ≡ numbers-next)
 calls_number-all-one block bytes from ends numbers r s numbers_after numbers-next p q = ranked-one _ r s _ _ p q
 
-pub calls_number-one : (block : List ℕ) (edge : List ℕ) (r s : Numbered) → calls.NumberMeets block edge r → calls.NumberMeets block edge s
+pub calls_number-one : (block : List ℕ) (edge : List ℕ) (r s : Result ℕ Refusal) → calls.NumberMeets block edge r → calls.NumberMeets block edge s
     → r ≡ s
-calls_number-one block edge r s p q = numbered-one _ r s p q
+calls_number-one block edge r s p q = equal_one _ r s p q
 
-pub calls_build-all-one : (block : List ℕ) (numbers : List ℕ) (steps : List ℕ) (ends : List ℕ) (r s : Wrote) (steps-after steps_next : List ℕ) (ends-after Ends-next : List ℕ) → calls.BuildAllMeets block numbers steps ends r steps-after ends-after → calls.BuildAllMeets block numbers steps ends s steps_next Ends-next
+pub calls_build-all-one : (block : List ℕ) (numbers : List ℕ) (steps : List ℕ) (ends : List ℕ) (r s : Result ℕ Unanswered) (steps-after steps_next : List ℕ) (ends-after Ends-next : List ℕ) → calls.BuildAllMeets block numbers steps ends r steps-after ends-after → calls.BuildAllMeets block numbers steps ends s steps_next Ends-next
     → (r ≡ s) × (steps-after ≡ steps_next) × (ends-after ≡ Ends-next)
 calls_build-all-one block numbers steps ends r s steps-after steps_next ends-after Ends-next p q = wrote_one _ r s _ _ _ _ p q
 
-pub calls_build-one : (block : List ℕ) (number : ℕ) (out : List ℕ) (r s : Built) (out-after out-next : List ℕ) → calls.BuildMeets block number out r out-after → calls.BuildMeets block number out s out-next
+pub calls_build-one : (block : List ℕ) (number : ℕ) (out : List ℕ) (r s : Result ℕ Refusal) (out-after out-next : List ℕ) → calls.BuildMeets block number out r out-after → calls.BuildMeets block number out s out-next
     → (r ≡ s) × (out-after ≡ out-next)
 calls_build-one block number out r s out-after out-next p q = built-one _ r s _ _ p q
 
-pub questions_compare_one : (block : List ℕ) (a : List ℕ) (b : List ℕ) (r s : Which) → questions.CompareMeets block a b r → questions.CompareMeets block a b s
+pub questions_compare_one : (block : List ℕ) (a : List ℕ) (b : List ℕ) (r s : Result Which Refusal) → questions.CompareMeets block a b r → questions.CompareMeets block a b s
     → r ≡ s
-questions_compare_one block a b r s p q = which-one _ r s p q
+questions_compare_one block a b r s p q = equal_one _ r s p q
 
 pub questions_earlier-one : (block : List ℕ) (a : Bor (List ℕ)) (b : Bor (List ℕ)) (r s : Bor (List ℕ)) → questions.EarlierMeets block a b r → questions.EarlierMeets block a b s
     → Alike r s
@@ -174,13 +161,13 @@ pub questions_earlier-refusal-one : (block : List ℕ) (a : List ℕ) (b : List 
     → r ≡ s
 questions_earlier-refusal-one block a b r s p q = equal_one _ r s p q
 
-pub questions_dip-one : (block : List ℕ) (edge : List ℕ) (r s : Dips) → questions.DipMeets block edge r → questions.DipMeets block edge s
+pub questions_dip-one : (block : List ℕ) (edge : List ℕ) (r s : Result (Option ℕ) Refusal) → questions.DipMeets block edge r → questions.DipMeets block edge s
     → r ≡ s
-questions_dip-one block edge r s p q = dips-one _ r s p q
+questions_dip-one block edge r s p q = equal_one _ r s p q
 
-pub pack-part-one : (bytes : List ℕ) (i : ℕ) (r s : Parted) → pack.PartMeets bytes i r → pack.PartMeets bytes i s
+pub pack-part-one : (bytes : List ℕ) (i : ℕ) (r s : Result (ℕ × ℕ) Refusal) → pack.PartMeets bytes i r → pack.PartMeets bytes i s
     → r ≡ s
-pack-part-one bytes i r s p q = parted_one _ r s p q
+pack-part-one bytes i r s p q = equal_one _ r s p q
 
 pub pack-edge-one : (bytes : Bor (List ℕ)) (i : ℕ) (r s : Bor (List ℕ)) → pack.EdgeMeets bytes i r → pack.EdgeMeets bytes i s
     → Alike r s
@@ -190,19 +177,19 @@ pub pack-edge-refusal-one : (bytes : List ℕ) (i : ℕ) (r s : ℕ) → pack.Ed
     → r ≡ s
 pack-edge-refusal-one bytes i r s p q = equal_one _ r s p q
 
-pub pack-repeat-one : (bytes : List ℕ) (r s : Repeats) → pack.RepeatMeets bytes r → pack.RepeatMeets bytes s
+pub pack-repeat-one : (bytes : List ℕ) (r s : Result (Option (ℕ × ℕ)) Refusal) → pack.RepeatMeets bytes r → pack.RepeatMeets bytes s
     → r ≡ s
-pack-repeat-one bytes r s p q = repeats-one _ r s p q
+pack-repeat-one bytes r s p q = equal_one _ r s p q
 
-pub pack-number-all-one : (bytes : List ℕ) (list : List ℕ) (r s : Numbers) (list-after list-next : List ℕ) → pack.NumberAllMeets bytes list r list-after → pack.NumberAllMeets bytes list s list-next
+pub pack-number-all-one : (bytes : List ℕ) (list : List ℕ) (r s : Result ℕ Fault) (list-after list-next : List ℕ) → pack.NumberAllMeets bytes list r list-after → pack.NumberAllMeets bytes list s list-next
     → (r ≡ s) × (list-after ≡ list-next)
 pack-number-all-one bytes list r s list-after list-next p q = listed-one _ r s _ _ p q
 
-pub packing_write_one : (block : List ℕ) (numbers : List ℕ) (out : List ℕ) (r s : Built) (out-after out-next : List ℕ) → packing.WriteMeets block numbers out r out-after → packing.WriteMeets block numbers out s out-next
+pub packing_write_one : (block : List ℕ) (numbers : List ℕ) (out : List ℕ) (r s : Result ℕ Refusal) (out-after out-next : List ℕ) → packing.WriteMeets block numbers out r out-after → packing.WriteMeets block numbers out s out-next
     → (r ≡ s) × (out-after ≡ out-next)
 packing_write_one block numbers out r s out-after out-next p q = built-one _ r s _ _ p q
 
-pub listing_write_one : (block : List ℕ) (out : List ℕ) (r s : Built) (out-after out-next : List ℕ) → listing.WriteMeets block out r out-after → listing.WriteMeets block out s out-next
+pub listing_write_one : (block : List ℕ) (out : List ℕ) (r s : Result ℕ Refusal) (out-after out-next : List ℕ) → listing.WriteMeets block out r out-after → listing.WriteMeets block out s out-next
     → (r ≡ s) × (out-after ≡ out-next)
 listing_write_one block out r s out-after out-next p q = built-one _ r s _ _ p q
 

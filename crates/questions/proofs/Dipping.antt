@@ -5,11 +5,11 @@
 --   not_fallen, not_rising    where the loop goes on
 --   lettered, slopes       the bytes of a valid edge of family 6 or 7 are digits of its steps
 --   Looking, looking_start, looking_more, dips-at, dips-never    the loop of `first_rise`
---   dip-told, dip-over, dip_kind, dip-stops, dip-none, dip-digits, dip-value    the reply to a dip, for each way through it
+--   dip-told, dip-over, dip_kind, dip-walked, dip-stops, dip-digits, dip-value    the answer to a dip, for each way through it
 use mathlib.Core.Path.{◌≡◌, refl, sym, ap, ap₂, ◌∙◌, subst}
 use mathlib.Core.Bool.{Bool, true, false, ◌&&◌, ◌||◌, and-false}
 use mathlib.Core.List.{List, [], ◌∷◌}
-use mathlib.Core.Option.{Option, none, some, none-ne-some, some-injective}
+use mathlib.Core.Option.{Option, none, some}
 use Prim.Native.Nat.{ℕ, zero, suc, ◌+◌, ◌-◌, ◌≤◌, ◌<◌}
 use native.Mathlib.Numerals.{add-one}
 use native.Mathlib.Nat.{not-suc-le-zero, le_of_suc-le-suc}
@@ -19,6 +19,9 @@ use lib.Dec.{T, leb, ltb, ltb→lt}
 use lib.IntN.{ℤ, pos, negsuc}
 use lib.ListN.{length, get_or}
 use borrow.Author.Tests.{lt-ltb, le-ltb, le-leb, lt-leb, ltb-true}
+use Rattle.std.specs.Prelude as Found
+use Rattle.std.specs.Prelude.{Some, None, Result, Ok, Err}
+use Rattle.std.proofs.Math.Bool.{or_comm}
 use Rattle.howmany.specs.Choose.{pick, only_if}
 use Rattle.howmany.specs.Least.{least}
 use Rattle.howmany.proofs.Choices.{and_left, and_right, is_true, is_false, holds}
@@ -29,10 +32,10 @@ use Rattle.rules.specs.Jobs.{Pair, one, steps_of, start_of, stays}
 use Rattle.rules.specs.Jobs.Job.{directed}
 use Rattle.rules.specs.Valid.{place, at, walks, is_edge, Valid}
 use Rattle.rules.specs.Places.{place_of}
-use Rattle.rules.specs.Refusals.{Answer, check, and_then, refusal_number}
+use Rattle.rules.specs.Refusals.{Answer, check, and_then}
 use Rattle.rules.specs.Refusals.Refusal.{not-an-edge, kind}
 use Rattle.rules.specs.Refusals.Answer.{accepted, refused}
-use Rattle.rules.specs.Blocks.{paired, job_answer}
+use Rattle.rules.specs.Blocks.{family_of, paired, job_answer}
 use Rattle.rules.specs.Answers.{known_job, count_answer}
 use Rattle.rules.specs.Jobs.{is_directed}
 use Rattle.rules.specs.Questions.{slope, fallen, dip_of, dip_answer}
@@ -41,21 +44,18 @@ use Rattle.rules.proofs.Slopes.{numbered-length, digit_at}
 use Rattle.rules.proofs.Places.{place_none, place-wrong}
 use Rattle.rules.proofs.Answering.{known-told, count-known, count-told}
 use Rattle.job.specs.declared.Job.{Job}
-use Rattle.job.specs.Stands.{Directed, start_held, Stands}
+use Rattle.job.specs.declared.Refusal.{Refusal}
+use Rattle.job.specs.declared.Refusal.TheVariants.{NotEdge, Kind}
+use Rattle.job.specs.Stands.{Directed, start_held, family_number, Stands}
 use Rattle.job.proofs.Sorts.{AsDirected, directed_of, directs}
 use Rattle.job.proofs.Sorts.AsDirected.{as_directed}
 use Rattle.job.specs.Replies.{reply}
-use Rattle.job.specs.Replies.Reply.{value, refusal}
 use Rattle.job.proofs.Standing.{Kept, Told}
-use Rattle.job.proofs.Says.{value_not}
-use Rattle.walks.specs.declared.Walked.{Walked}
-use Rattle.walks.specs.declared.Walked.TheVariants.{NoJob, Edge, Stops}
-use Rattle.walks.specs.Walks.{walk_of, walked_says}
+use Rattle.job.proofs.Says.{value_not, value-one}
+use Rattle.walks.specs.Walks.{found, finding, walk_of}
+use Rattle.walks.proofs.Finding.{found_is}
 use Rattle.calls.proofs.Fitting.{known_of}
-use Rattle.questions.specs.declared.Dips.{Dips}
-use Rattle.questions.specs.declared.Dips.TheVariants.{At, Never}
-use Rattle.questions.specs.Replies.{dip_says}
-use Rattle.questions.specs.Steps.{Slopes, Digits, DipsAs}
+use Rattle.questions.specs.Steps.{Slopes, Digits, RisesAs}
 use Rattle.questions.proofs.Comparing.{carried}
 
 -- ---- slopes on raised bytes
@@ -114,7 +114,7 @@ module _ (j : Job) (fenced : Bool) (m : ℤ) (pairs : List Pair) (d : Directed j
     adds = adds t;
   }
 
-pub slopes : {j : Job} {J : rules.Job} → Stands j J → (e : List ℕ) → paired j.family ≡ true → is_edge J e ≡ true → Slopes j.b e J
+pub slopes : {j : Job} {J : rules.Job} → Stands j J → (e : List ℕ) → paired (family_number j.family) ≡ true → is_edge J e ≡ true → Slopes j.b e J
 slopes st e f t = go (directed_of st f) t
   where
     go : {j : Job} {J : rules.Job} → AsDirected j J → is_edge J e ≡ true → Slopes j.b e J
@@ -179,26 +179,26 @@ module _ {b e : List ℕ} {down : Bool} {i : ℕ} (w : Looking b e down i) where
     dip-is J s =
         ap₂ ◌&&◌ (rises-is (slope J e i) (get_or b (get_or e i 0 - one) 0) (s.adds i l) ∙ ap (ltb 128) (sym q)) (sym (w.seen J s).down_is)
 
-    pub dips-at : 128 < up → down ≡ true → (J : rules.Job) → Slopes b e J → dip_says (At i) ≡ value (dip_of J e)
+    pub dips-at : 128 < up → down ≡ true → (J : rules.Job) → Slopes b e J → Some i ≡ found (dip_of J e)
     dips-at h d J s =
-        let found : dips J e i ≡ true = dip-is J s ∙ ap₂ ◌&&◌ (lt-ltb 128 up h) d in
-        ap value (sym (dip-at J e i (least_at (dips J e) i (length e) (w.seen J s).no_dip found l) ∙ ap (λ (t : Bool). only_if t i) (lt-ltb i (length e) l)))
+        let dipped : dips J e i ≡ true = dip-is J s ∙ ap₂ ◌&&◌ (lt-ltb 128 up h) d in
+        sym (ap found (dip-at J e i (least_at (dips J e) i (length e) (w.seen J s).no_dip dipped l) ∙ ap (λ (t : Bool). only_if t i) (lt-ltb i (length e) l)))
 
-    pub looking_more : {later : Bool} → ltb 128 up && down ≡ false → later ≡ ltb up 128 || down → Looking b e later (i + 1)
-    looking_more {later} h r = record {
+    pub looking_more : ltb 128 up && down ≡ false → Looking b e (down || ltb up 128) (i + 1)
+    looking_more h = record {
       i_most = omega arith;
       job = w.job;
       digits = w.digits;
       seen = λ J s. rw (add-one i) (record {
         no_dip = least_on (dips J e) i (w.seen J s).no_dip (dip-is J s ∙ h);
-        down_is = r ∙ ap₂ ◌||◌ (sym (falls J s)) (w.seen J s).down_is ∙ sym (fallen-next J e i);
+        down_is = or_comm down (ltb up 128) ∙ ap₂ ◌||◌ (sym (falls J s)) (w.seen J s).down_is ∙ sym (fallen-next J e i);
       });
     }
 
-  pub dips-never : length e ≤ i → (J : rules.Job) → Slopes b e J → dip_says Never ≡ value (dip_of J e)
+  pub dips-never : length e ≤ i → (J : rules.Job) → Slopes b e J → None ≡ found (dip_of J e)
   dips-never l J s =
       let q : i ≡ length e = omega (arith, w.i_most) in
-      ap value (sym (dip-at J e (length e) (subst (λ (k : ℕ). least (dips J e) k ≡ k) q (w.seen J s).no_dip) ∙ ap (λ (t : Bool). only_if t (length e)) (le-ltb (length e) (length e) (omega arith))))
+      sym (ap found (dip-at J e (length e) (subst (λ (k : ℕ). least (dips J e) k ≡ k) q (w.seen J s).no_dip) ∙ ap (λ (t : Bool). only_if t (length e)) (le-ltb (length e) (length e) (omega arith))))
 
 -- ---- the replies
 
@@ -211,52 +211,53 @@ module _ (block e : List ℕ) where
   unfolding dip_answer
   dip_then a q = ap (λ (x : Answer rules.Job). and_then x asks) q
 
-  pub dip-told : {k : ℕ} → Told block k → refusal k ≡ reply (dip_answer block e)
-  dip-told t = ap refusal t.number ∙ ap reply (sym (dip_then (refused t.refusal) (known-told block t.refusal t.answer)))
+  pub dip-told : {k : Refusal} → Told block k → Err k ≡ finding (dip_answer block e)
+  dip-told t = ap Err t.name ∙ ap finding (sym (dip_then (refused t.refusal) (known-told block t.refusal t.answer)))
 
-  pub dip-over : (k : ℕ) → refusal k ≡ reply (count_answer block) → refusal k ≡ reply (dip_answer block e)
-  dip-over k h = go (known_job block) refl
+  pub dip-over : {k : Refusal} → Err k ≡ reply (count_answer block) → Err k ≡ finding (dip_answer block e)
+  dip-over {k} h = go (known_job block) refl
     where
-      go : (a : Answer rules.Job) → known_job block ≡ a → refusal k ≡ reply (dip_answer block e)
+      go : (a : Answer rules.Job) → known_job block ≡ a → Err k ≡ finding (dip_answer block e)
       go (accepted J) q = absurd (value_not (sym (h ∙ ap reply (count-known block J q))))
-      go (refused x) q = carried k (refusal_number x) (h ∙ ap reply (count-told block x q)) ∙ ap reply (sym (dip_then (refused x) q))
+      go (refused x) q = carried (h ∙ ap reply (count-told block x q)) ∙ ap finding (sym (dip_then (refused x) q))
 
-  module _ {j : Job} (h : Kept block j) {n : ℕ} (v : value n ≡ reply (count_answer block)) where
+  module _ {j : Job} (h : Kept block j) {n : ℕ} (v : Ok n ≡ reply (count_answer block)) where
     fitting : known_job block ≡ accepted h.job
     fitting = let k = known_of block n v in k.answer ∙ sym k.made ∙ h.answer
 
-    dip-asked : (d t : Bool) → paired j.family ≡ d → is_edge h.job e ≡ t → dip_answer block e ≡ check d kind (check t not-an-edge (accepted (dip_of h.job e)))
+    dip-asked : (d t : Bool) → paired (family_of block) ≡ d → is_edge h.job e ≡ t → dip_answer block e ≡ check d kind (check t not-an-edge (accepted (dip_of h.job e)))
     dip-asked d t p q =
         dip_then (accepted h.job) fitting
-        ∙ ap₂ (λ (d t : Bool). check d kind (check t not-an-edge (accepted (dip_of h.job e)))) (directs h.stands ∙ p) q
+        ∙ ap₂ (λ (d t : Bool). check d kind (check t not-an-edge (accepted (dip_of h.job e)))) (directs h.stands ∙ ap paired h.family ∙ p) q
 
-    pub dip_kind : paired j.family ≡ false → refusal 11 ≡ reply (dip_answer block e)
-    unfolding refusal_number
-    dip_kind p = sym (ap reply (dip-asked false (is_edge h.job e) p refl))
+    pub dip_kind : paired (family_of block) ≡ false → Err Kind ≡ finding (dip_answer block e)
+    dip_kind p = sym (ap finding (dip-asked false (is_edge h.job e) p refl))
 
-    module _ (p : paired j.family ≡ true) (x : Walked) (w : walked_says x ≡ walk_of (job_answer block) e) where
-      place-told : walked_says x ≡ some (place_of h.job e)
-      place-told = w ∙ ap (λ (a : Answer rules.Job). walk_of a e) h.answer
+    -- what the walk says of the string; it isn't refused
+    module _ {r : Result (Found.Option ℕ) Refusal} (w : r ≡ finding (walk_of (job_answer block) e)) where
+      walked : r ≡ Ok (found (place_of h.job e))
+      walked = w ∙ ap (λ (a : Answer rules.Job). finding (walk_of a e)) h.answer
 
-      pub dip-stops : {i : ℕ} → x ≡ Stops i → refusal 5 ≡ reply (dip_answer block e)
-      unfolding refusal_number Valid
-      dip-stops {i} q =
-          let z : some i ≡ place_of h.job e = some-injective (some i) (place_of h.job e) (sym (ap walked_says q) ∙ place-told) in
-          sym (ap reply (dip-asked true false p (is_false (is_edge h.job e) ((place-wrong h.job e i).0 (sym z)).invalid)))
+      pub dip-walked : {k : Refusal} → r ≡ Err k → ⊥
+      dip-walked q = value_not (sym walked ∙ q)
 
-      pub dip-none : x ≡ NoJob → ⊥
-      dip-none q = none-ne-some (place_of h.job e) (sym (ap walked_says q) ∙ place-told)
-
-      module _ (q : x ≡ Edge) where
-        valid : is_edge h.job e ≡ true
+      module _ (p : paired (family_of block) ≡ true) where
+        pub dip-stops : {i : ℕ} → r ≡ Ok (Some i) → Err NotEdge ≡ finding (dip_answer block e)
         unfolding Valid
-        valid =
-            let z : none ≡ place_of h.job e = some-injective none (place_of h.job e) (sym (ap walked_says q) ∙ place-told) in
-            is_true (is_edge h.job e) ((place_none h.job e).1 (sym z))
+        dip-stops {i} q =
+            let z : some i ≡ place_of h.job e = found_is (Some i) (place_of h.job e) (value-one (sym q ∙ walked)) in
+            sym (ap finding (dip-asked true false p (is_false (is_edge h.job e) ((place-wrong h.job e i).0 (sym z)).invalid)))
 
-        pub dip-digits : Digits j e
-        dip-digits = record { job = h.job; slopes = slopes h.stands e p valid }
+        module _ (q : r ≡ Ok None) where
+          valid : is_edge h.job e ≡ true
+          unfolding Valid
+          valid =
+              let z : none ≡ place_of h.job e = found_is None (place_of h.job e) (value-one (sym q ∙ walked)) in
+              is_true (is_edge h.job e) ((place_none h.job e).1 (sym z))
 
-        pub dip-value : (r : Dips) → DipsAs j e r → dip_says r ≡ reply (dip_answer block e)
-        unfolding dip-digits
-        dip-value r f = f h.job dip-digits.slopes ∙ ap reply (sym (dip-asked true true p valid))
+          pub dip-digits : Digits j e
+          dip-digits = record { job = h.job; slopes = slopes h.stands e (ap paired h.family ∙ p) valid }
+
+          pub dip-value : (o : Found.Option ℕ) → RisesAs j e o → Ok o ≡ finding (dip_answer block e)
+          unfolding dip-digits
+          dip-value o f = ap Ok (f h.job dip-digits.slopes) ∙ ap finding (sym (dip-asked true true p valid))

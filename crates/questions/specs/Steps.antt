@@ -2,15 +2,13 @@
 --
 --   Slopes b e J    each byte of e is one of eight digits, and what its step adds to the height is b's entry for it, raised by 128
 --   Digits j e      the same of a held job's entries and some job
---   DipsAs j e r    r says where e dips
-use Rattle.std.specs.Prelude.{◌≡◌, List, ℕ, ◌-◌, ◌≤◌, ◌<◌, length, get_or}
+--   RisesAs j e r   r says where e dips
+use Rattle.std.specs.Prelude.{◌≡◌, List, ℕ, ◌-◌, ◌≤◌, ◌<◌, length, get_or, Option}
 use Rattle.rules.specs.Jobs as rules
 use Rattle.rules.specs.Jobs.{one}
 use Rattle.rules.specs.Questions.{slope, dip_of}
 use Rattle.job.specs.declared.Job.{Job}
-use Rattle.job.specs.Replies.Reply.{value}
-use Rattle.questions.specs.declared.Dips.{Dips}
-use Rattle.questions.specs.Replies.{dip_says}
+use Rattle.walks.specs.Walks.{found}
 use Rattle.rules.specs.Points.{Is}
 
 pub record Slopes (b e : List ℕ) (J : rules.Job) : Type 0 where
@@ -23,5 +21,5 @@ pub record Digits (j : Job) (e : List ℕ) : Type 0 where
   pub slopes : Slopes j.b e job
 
 -- "yes exactly if a step with b below 0 has a later step with b above 0; with the place of the first such later step, counted from 0"
-abbrev pub DipsAs : Job → List ℕ → Dips → Type 0
-DipsAs j e r = (J : rules.Job) → Slopes j.b e J → dip_says r ≡ value (dip_of J e)
+abbrev pub RisesAs : Job → List ℕ → Option ℕ → Type 0
+RisesAs j e r = (J : rules.Job) → Slopes j.b e J → r ≡ found (dip_of J e)

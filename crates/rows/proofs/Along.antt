@@ -6,15 +6,15 @@
 --   plain-most                no count before the end is above the end's
 --   same_rows                  as many rows are as many cells
 --   rem_one, place-one         a place is one row's and one column's; place_in, place-far: it lies in the table, behind the column in front
---   rows_none, rows_more, rows_next, rows_filled    the rows so far: none yet, one cell more, a row more, and all of them
+--   rows_more, rows_next, rows_filled    the rows so far: one cell more, a row more, and all of them
 --   below-is, across-is, first-is, first_one     what is read from the row below
 --   Along, row-.., along-.., next-..             the loop along a row
---   risen_of, risen_over, rows-over   the loop over the rows, and where a count doesn't fit
+--   risen_of, rows-over   the loop over the rows, and where a count doesn't fit
 use Rattle.std.proofs.Common.{◌≡◌, ℕ, zero, suc, ◌+◌, ◌-◌, ◌*◌, ◌^◌, ◌<◌, ◌≤◌, Bool, true, false, T, eqb, List, length, get_or, set, sym, refl, ap, ◌∙◌, subst, ap₂, inl, inr, le_trans, arith, length-set, get_or-set_other, get_or-set_same, eq-eqb, ne_eqb}
 use native.Mathlib.Decide.{dec_le, dec_lt, ℕ_discrete}
 use Rattle.howmany.specs.Choose.{pick}
 use Rattle.howmany.specs.Sum.{sum}
-use Rattle.tables.specs.declared.Tally.TheVariants.{Over}
+use Rattle.std.specs.Prelude.{None}
 use Rattle.tables.specs.Form.{walks_to, via}
 use Rattle.tables.specs.Cells.{stride_of, place}
 use Rattle.tables.specs.declared.Plan as plans
@@ -144,13 +144,6 @@ done_in y i u v ey (inl l) h = omega arith
 done_in y i u v ey (inr d) h = omega (arith, d.0)
 
 module _ {k : ℕ} {f : Wall} {sa sc : List ℕ} {m ey n : ℕ} {val : List ℕ} where
-  pub rows_none : ((j : ℕ) → get_or val j 0 ≡ 0) → Rows k f sa sc m ey n val 0 0
-  rows_none z = record { right = λ u v d. absurd (none u v d); other = λ j h. z j }
-    where
-      none : (u v : ℕ) → Done 0 0 u v → ⊥
-      none u v (inl l) = omega arith
-      none u v (inr d) = omega (arith, d.0, d.1)
-
   module _ {y i : ℕ} (rs : Rows k f sa sc m ey n val y i) (in_row : y ≤ ey) where
     pub rows_more : (p w : ℕ) → p ≡ place m ey (y + i) y → p < length val → i ≤ n → w ≡ walks_to k f sa sc (y + i) y → Rows k f sa sc m ey n (set val p w) y (i + 1)
     rows_more p w ep l le ew = record {
@@ -296,13 +289,6 @@ module _ {p : plans.Plan} {sa sc off : List ℕ} {y : ℕ} {val : List ℕ} (w :
       go (yes z) = e ∙ rw (eq-eqb y 0 z) (first_one w.ready.slopes w.steps.slope _ w.steps.plain w.rows w.inside w.steps.wide z)
       go (no z) = e ∙ rw (ne_eqb y 0 z) (first-is w.ready.slopes w.steps.slope _ w.steps.plain w.rows w.inside w.steps.wide cell ep z)
 
-  pub first_fits : ((j : ℕ) → get_or val j 0 < 2 ^ 64) → (j sum : ℕ) → sum ≡ pick (eqb y 0) 1 (get_or val j 0) → sum < 2 ^ 64
-  first_fits fits j sum e = go (eqb y 0) e
-    where
-      go : (b : Bool) → sum ≡ pick b 1 (get_or val j 0) → sum < 2 ^ 64
-      go true q = omega arith
-      go false q = omega (arith, fits j)
-
   pub along-start : (cell sum : ℕ) → cell ≡ place p.deep p.ey y y → sum ≡ pick (eqb y 0) 1 (get_or val (cell - stride_for p - 1) 0)
       → Along p sa sc off y (set val cell sum) cell sum 0
   along-start cell sum ep es =
@@ -323,9 +309,6 @@ module _ {p : plans.Plan} {sa sc off : List ℕ} {y : ℕ} {val : List ℕ} {cel
 
   pub along_in : cell < length val
   along_in = omega (arith, a.at, place_in p.deep p.ex p.ey (y + i) y column_in a.inside, a.ready.room)
-
-  pub along-small : cell < 3712
-  along-small = omega (arith, a.at, place_in p.deep p.ex p.ey (y + i) y column_in a.inside, a.ready.sizes.cells)
 
   pub along-far : stride_for p < cell
   along-far = omega (arith, a.at, place-far p.deep p.ey (y + i) y, a.steps.deep)
@@ -386,8 +369,5 @@ module _ {p : plans.Plan} {sa sc : List ℕ} {val : List ℕ} where
     over = λ q. absurd (subst T q tt);
   }
 
-  pub risen_over : {r : Bool} → 2 ^ 64 ≤ walks_for p sa sc → r ≡ false → Risen p sa sc val r
-  risen_over h e = record { got = λ q. absurd (subst T (sym q ∙ e) tt); over = λ q. h }
-
-  pub rows-over : 2 ^ 64 ≤ walks_for p sa sc → Filled p sa sc val Over
+  pub rows-over : 2 ^ 64 ≤ walks_for p sa sc → Filled p sa sc val None
   rows-over h = record { answer = sym (cap_ge (walks_for p sa sc) h); solid = λ n. absurd (n refl) }

@@ -1,38 +1,38 @@
 -- Families 1 and 3 over their own table, with the steps written into the loops. Assumes nothing.
 --
---   east-up                         how far up E goes, from how far N does
---   back-small, end-at, cells_at    what `north_of`, `end_of` and `cells_of` sum fits
 --   Near, near                      what N and E bring to a cell can be read, and fits
 --   PlainAlong                      the loop along a row, by the plan of families 1 and 3
 --   Begins, row-begins, row-start   its first cell
 --   Filling, filling_in, filling_far, filling_next, row-over, row_next    a cell more
 --   Here, LedBack, led-start, led-out, led-end    the loop of `read`
---   Reading, reading_in, reading-back, reading-near, north-led, east-led, across-led, east-fits, across-fits    a step read
+--   Left, Taken, none_read, one_read    the letters that are left, and one fewer
+--   Reading, reading-near, north-led, east-led, across-led, east-fits, across-fits    a step read
 --   no_step, across-left            where `read` finds no step of the job
 --   Given, Spelt, spelt-start    the loop of `spell`
---   Spelling, spelling_back, spelling_near, spelling_room, Added, north-added, east-added, across-added    a step written
-use Rattle.std.proofs.Common.{◌≡◌, ℕ, ◌+◌, ◌-◌, ◌*◌, ◌^◌, ◌<◌, ◌≤◌, Bool, true, false, not, T, eqb, ltb, List, length, get_or, set, sym, refl, ap, ◌∙◌, subst, arith, eqb→eq, eq-eqb}
+--   Spelling, spelling_near, Added, north-added, east-added, across-added    a step written
+use Rattle.std.proofs.Common.{◌≡◌, ℕ, ◌+◌, ◌-◌, ◌*◌, ◌^◌, ◌<◌, ◌≤◌, Bool, true, false, not, T, eqb, ltb, List, [], ◌∷◌, ◌++◌, append_assoc, append-nil, length, length-append, get_or, set, sym, refl, ap, ◌∙◌, subst, arith, eqb→eq, eq-eqb}
+use Rattle.std.specs.List.{push}
+use Rattle.std.proofs.Math.Seq.{get_or-append_seam}
 use native.Mathlib.Decide.{ℕ_discrete}
 use Rattle.howmany.specs.Choose.{pick, bit}
 use Rattle.howmany.specs.Sum.{sum}
 use Rattle.howmany.proofs.Sums.{sum_mono}
 use Rattle.howmany.proofs.Choices.{is_true, holds, and_left, and_right}
-use Rattle.lines.specs.declared.Rank.TheVariants.{At, NoEdge}
+use Rattle.std.specs.Prelude.{Some, None}
 use Rattle.letters.specs.Letters.{ordinal_of, glyph_of}
 use Rattle.letters.proofs.Glyphs.{place_n, place-e, place-d, place_no, glyph_n, glyph-e, glyph-d}
 use Rattle.rows.specs.declared.plain.Plain.{Plain}
 use Rattle.tables.specs.Form.{wall, via}
 use Rattle.tables.specs.Cells.{cap_of, place}
 use Rattle.tables.specs.Edges.{brought_at, Sought}
-use Rattle.rows.specs.Plains.{plain_plan, plain_right, plain_up, plain_back, plain_end, plain_walks, PlainRank, rises, is_across, PlainSizes, PlainReadable, PlainRange}
-use Rattle.tables.specs.Plans.{stride_for, cells_for}
+use Rattle.rows.specs.Plains.{plain_plan, plain_right, plain_up, plain_back, plain_end, plain_walks, PlainRank, is_across, PlainReadable}
+use Rattle.tables.specs.Plans.{stride_for}
 use Rattle.rows.specs.Rows.{Rowing}
 use Rattle.tables.proofs.Walls.{wall-none}
-use Rattle.tables.proofs.Laws.{sum_more, mul_bound, walks-start, cell-value}
+use Rattle.tables.proofs.Laws.{sum_more, walks-start, cell-value}
 use Rattle.tables.proofs.Counts.{pos_of}
-use Rattle.tables.proofs.Phases.{last_row}
 use Rattle.tables.proofs.Numbers.{Stand, stand_in, all-le, reads_at, reads-sum, end-stand, Walking, not_there, walking_start, walking-reads, walking-fits, not_letter, not_back, stepped, not_start, walking-end}
-use Rattle.tables.proofs.Building.{Writing, writing_start, left-of, spell-room, step_from, step_back, next-letter, seek_here, seek_end}
+use Rattle.tables.proofs.Building.{Writing, writing_start, left-of, step_from, step_back, next-letter, seek_here, seek_end}
 use Rattle.rows.proofs.Plains.{plain-steps}
 use Rattle.rows.proofs.Along.{Along, place-far, row_at, row_small, row-far, along-start, along_in, along-far, next_in, next_small, along-over, along-next}
 
@@ -53,29 +53,6 @@ one_up true u e = (omega arith, omega arith, omega arith)
 one_up false u e = (omega arith, omega arith, omega arith)
 
 module _ (c : Plain) where
-  pub east-up : {u : ℕ} → u ≡ rises c → (u ≤ 1) × (1 - u ≡ get_or (plain_up c) 1 0)
-  east-up {u} e = let h = one_up (ltb c.n c.m) u e in (h.0, h.1)
-
-  pub back-small : PlainSizes c → {n o : ℕ} → n ≡ get_or (plain_back c) 0 0 → o ≡ get_or (plain_back c) 1 0 → n + o < 2 ^ 64
-  back-small s en eo = omega (arith, en, eo, s.ey_le, one_up (ltb c.n c.m) _ refl)
-
-  -- the sums on the way to the end's place fit
-  pub end-at : PlainSizes c → {s y : ℕ} → s ≡ stride_for (plain_plan c) → y ≡ (plain_plan c).ey
-      → ((c.n + c.m + 1) * s < 2 ^ 64) × ((c.n + c.m + 1) * s + (y + 1) < 2 ^ 64) × ((c.n + c.m + 1) * s + (y + 1) ≡ plain_end c)
-  end-at z es ey = rw (es, ey) (omega (arith, room), omega (arith, room), omega arith)
-    where
-      room : (c.n + c.m + 1) * stride_for (plain_plan c) + stride_for (plain_plan c) ≤ 3712
-      room = rw (last_row (c.n + c.m) (stride_for (plain_plan c))) z.cells
-
-  pub cells_at : PlainRange c → {y : ℕ} → y ≡ (plain_plan c).ey → (y ≤ 64) × ((c.n + c.m + 2) * (y + 2) < 2 ^ 64) × ((c.n + c.m + 2) * (y + 2) ≡ cells_for (plain_plan c))
-  cells_at w {y} e =
-      let h : y ≤ 64 = omega (arith, e, either (ltb c.n c.m)) in
-      (h, omega (arith, mul_bound (c.n + c.m + 2) (y + 2) 130 66 (omega (arith, w.n_most, w.m_most)) (omega arith)), ap (λ (z : ℕ). (c.n + c.m + 2) * z) (omega (arith, e)))
-    where
-      either : (t : Bool) → pick t c.n c.m ≤ 64
-      either true = w.n_most
-      either false = w.m_most
-
   -- how many walks lead to (x, y) by each last step
   abbrev steps-via : ℕ → ℕ → ℕ → ℕ
   steps-via x y = via (plain_plan c).k (plain_plan c).wall (plain_right c) (plain_up c) x y
@@ -198,7 +175,7 @@ pub record LedBack (c : Plain) (val e : List ℕ) (acc cell i : ℕ) : Type 0 wh
   pub full : PlainReadable c val
   pub i_le : i ≤ length e
   pub inside : cell < length val
-  pub none : get_or val cell 0 ≡ 0 → PlainRank c e NoEdge
+  pub none : get_or val cell 0 ≡ 0 → PlainRank c e None
   pub some : (get_or val cell 0 ≡ 0 → ⊥) → Here c val e acc cell i
 
 module _ (c : Plain) {val e : List ℕ} where
@@ -206,10 +183,10 @@ module _ (c : Plain) {val e : List ℕ} where
   led-start fu ep = record { full = fu; i_le = omega arith; inside = stand_in fu (end-stand fu ep); none = not_there true e fu ep; some = walking_start true e fu ep }
 
   module _ {acc cell i : ℕ} (w : LedBack c val e acc cell i) (h : i ≤ 0) where
-    pub led-out : (cell ≡ stride_for (plain_plan c) + 1 → ⊥) → PlainRank c e NoEdge
+    pub led-out : (cell ≡ stride_for (plain_plan c) + 1 → ⊥) → PlainRank c e None
     led-out o = elim (ℕ_discrete (get_or val cell 0) 0) [ yes z ↦ w.none z | no n ↦ not_start (w.some n) h (omega arith) o ]
 
-    pub led-end : cell ≡ stride_for (plain_plan c) + 1 → PlainRank c e (At acc)
+    pub led-end : cell ≡ stride_for (plain_plan c) + 1 → PlainRank c e (Some acc)
     led-end q = walking-end (w.some (λ z. omega (arith, z, one))) h (omega arith) q
       where
         one : get_or val cell 0 ≡ 1
@@ -219,6 +196,33 @@ module _ (c : Plain) {val e : List ℕ} where
             (rw e (w.full.solid.flags.right 0 0 (omega arith) (omega arith, omega (arith, (plain-steps c).wide))
             ∙ ap cap_of (walks-start (plain_plan c).k (plain_plan c).wall (plain_right c) (plain_up c) (pos_of w.full.ready.slopes) 0)))
             (omega arith)
+
+-- the edge's letters that are left, and those that were read
+pub record Left (e rest : List ℕ) : Type 0 where
+  pub read : List ℕ
+  pub whole : e ≡ rest ++ read
+
+-- the last of them taken away
+pub record Taken (e rest less : List ℕ) (b : ℕ) : Type 0 where
+  pub left : Left e less
+  pub more : 0 < length rest
+  pub one : length rest - 1 ≡ length less
+  pub letter : get_or e (length rest - 1) 0 ≡ b
+
+pub none_read : (e : List ℕ) {rest : List ℕ} → rest ≡ e → Left e rest
+none_read e q = record { read = []; whole = rw q (sym (append-nil e)) }
+
+pub one_read : {e rest less : List ℕ} {b : ℕ} → Left e rest → rest ≡ push less b → Taken e rest less b
+one_read {e} {rest} {less} {b} w q =
+    let l : length rest ≡ length less + 1 = omega (arith, ap length q, length-append less (b ∷ [])) in
+    let one : length rest - 1 ≡ length less = omega arith in
+    let whole : e ≡ less ++ (b ∷ w.read) = w.whole ∙ ap (λ (z : List ℕ). z ++ w.read) q ∙ append_assoc less (b ∷ []) w.read in
+    record {
+      left = record { read = b ∷ w.read; whole = whole };
+      more = omega arith;
+      one = one;
+      letter = rw (one, whole) (get_or-append_seam less b w.read 0);
+    }
 
 -- a turn: a letter is left, and n and o are how far back the cells of N and E lie
 pub record Reading (c : Plain) (val e : List ℕ) (acc cell i n o : ℕ) : Type 0 where
@@ -252,12 +256,6 @@ module _ {c : Plain} {val e : List ℕ} {acc cell i n o : ℕ} (t : Reading c va
     some = λ n. rw es (stepped walking t.more q k (ap (λ (z : ℕ). cell - z) eb) n (said l (omega arith) ev));
   }
 
-  pub reading_in : i - 1 < length e
-  reading_in = omega (arith, walking.i_le, t.more)
-
-  pub reading-back : n + o < 2 ^ 64
-  reading-back = back-small c walking.full.ready.sizes t.north t.east
-
   pub reading-near : Near c val x y cell n o
   reading-near = near c walking.full walking.stand t.north t.east
 
@@ -276,10 +274,10 @@ module _ {c : Plain} {val e : List ℕ} {acc cell i n o : ℕ} (t : Reading c va
     east-led b = next 1 (place-e true _ refl a b) (omega (arith, two-there c.diagonal)) t.east reading-near.one refl
 
     module _ (m : get_or e (i - 1) 0 ≡ 69 → ⊥) where
-      pub no_step : is_across c (get_or e (i - 1) 0) ≡ false → PlainRank c e NoEdge
+      pub no_step : is_across c (get_or e (i - 1) 0) ≡ false → PlainRank c e None
       no_step f = go (ℕ_discrete (get_or e (i - 1) 0) 68) c.diagonal refl
         where
-          go : Dec (get_or e (i - 1) 0 ≡ 68) → (d : Bool) → c.diagonal ≡ d → PlainRank c e NoEdge
+          go : Dec (get_or e (i - 1) 0 ≡ 68) → (d : Bool) → c.diagonal ≡ d → PlainRank c e None
           go (no b) d q = not_letter walking t.more (place_no true _ refl a m b) (two-there c.diagonal).1
           go (yes b) false q = not_letter walking t.more (place-d true _ refl a m b) (rw q (omega arith))
           go (yes b) true q = let g : true ≡ false = rw (eq-eqb (get_or e (i - 1) 0) 68 b, q) at f in absurd (subst T g tt)
@@ -291,7 +289,7 @@ module _ {c : Plain} {val e : List ℕ} {acc cell i n o : ℕ} (t : Reading c va
         letter : 2 ≡ ordinal_of true (get_or e (i - 1) 0)
         letter = place-d true _ refl a m (eqb→eq (get_or e (i - 1) 0) 68 (and_left (eqb (get_or e (i - 1) 0) 68) c.diagonal (holds is)))
 
-        pub across-left : cell < n + o → PlainRank c e NoEdge
+        pub across-left : cell < n + o → PlainRank c e None
         across-left l = not_back walking t.more letter (rw d (omega arith)) (ap (λ (z : ℕ). cell - z) (across-back c t.north t.east d)) (zero (omega arith))
           where
             zero : cell - (n + o) ≡ 0 → get_or val (cell - (n + o)) 0 ≡ 0
@@ -337,14 +335,8 @@ module _ {c : Plain} {val : List ℕ} {r : ℕ} {buf : List ℕ} {x cell left s 
   abbrev each : ℕ → ℕ
   each = steps-via c x t.spelt.y
 
-  pub spelling_back : n + o < 2 ^ 64
-  spelling_back = back-small c t.spelt.full.ready.sizes t.north t.east
-
   pub spelling_near : Near c val x t.spelt.y cell n o
   spelling_near = near c t.spelt.full t.spelt.stand t.north t.east
-
-  pub spelling_room : (1 ≤ s) × (s - 1 < length buf)
-  spelling_room = spell-room t.spelt t.more
 
   added : (l g a b rest : ℕ) → Sought each (plain_plan c).k left l rest → a ≡ get_or (plain_right c) l 0 → b ≡ get_or (plain_back c) l 0 → g ≡ glyph_of true l
       → Added c val r buf x cell s g a b rest

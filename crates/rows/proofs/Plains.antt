@@ -19,15 +19,15 @@ use Rattle.rules.specs.Counts.{count_of}
 use Rattle.rules.proofs.Shear.{north_east_grid, delannoy_grid}
 use Rattle.rules.specs.Blocks.{family_of, plain, job_answer}
 use Rattle.rules.specs.Refusals.Answer.{accepted}
-use Rattle.job.specs.Replies.{reply, count_says}
-use Rattle.job.specs.declared.Counted.{Counted}
+use Rattle.job.specs.Replies.{reply}
+use Rattle.std.specs.Prelude.{Result}
+use Rattle.job.specs.declared.Refusal.{Refusal}
+use Rattle.job.specs.declared.Family.TheVariants.{NorthEast, Delannoy}
 use Rattle.job.specs.declared.Job.{Job}
-use Rattle.job.specs.declared.Built.{Built}
 use Rattle.job.specs.Stands.{Level}
 use Rattle.job.proofs.Sorts.{AsPlain, plain-of}
 use Rattle.job.proofs.Sorts.AsPlain.{as_plain}
 use Rattle.job.proofs.Standing.{Kept}
-use Rattle.lines.specs.declared.Ranked.{Ranked}
 use Rattle.plains.specs.Plains.{ends}
 use Rattle.plains.proofs.Ends.{ends-over}
 use Rattle.tables.specs.Form.{Form, spot, wall, unwalled}
@@ -37,7 +37,7 @@ use Rattle.tables.specs.Table.{Offsets}
 use Rattle.tables.specs.Plans.{stride_for, cells_for, Planned, PlanOf}
 use Rattle.rows.specs.Rows.{Rises, PlainSteps, PlainStepsFor}
 use Rattle.lines.specs.Known.{CountsOf, NumbersOf, BuildsOf}
-use Rattle.rows.specs.Plains.{plain_of, plain_job, plain_count, plain_plan, plain_right, plain_up, plain_back, PlainReady, PlainNumbers, PlainBuilds, PlainRange}
+use Rattle.rows.specs.Plains.{crosses, plain_of, plain_job, plain_count, plain_plan, plain_right, plain_up, plain_back, PlainReady, PlainNumbers, PlainBuilds, PlainRange}
 use Rattle.rows.specs.declared.plain.Plain.{Plain}
 use Rattle.tables.specs.declared.Shape.{Shape}
 use Rattle.tables.proofs.Walls.{wall-none}
@@ -104,7 +104,6 @@ plain_form k sa sc ex ey la lc some most t lx ly = record {
 -- the shape of such a job, with the end at n and E going up where t, else at m and N
 abbrev shape_by : Bool → Bool → ℕ → ℕ → Shape
 shape_by t d n m = record {
-  state = 0;
   k = pick d 3 2;
   wall = unwalled;
   top = 1;
@@ -224,7 +223,7 @@ module _ (c : Plain) where
       go true = refl
       go false = refl
 
-  pub plain-counts : (r : Counted) → count_says r ≡ reply (plain_count c) → CountsOf (plain_job c) r
+  pub plain-counts : (r : Result ℕ Refusal) → r ≡ reply (plain_count c) → CountsOf (plain_job c) r
   plain-counts r e = rw (← ends_is) e
 
   pub plain-steps : PlainStepsFor (plain_plan c) (plain_right c) (plain_up c)
@@ -270,16 +269,16 @@ module _ (c : Plain) {y : ℕ} (ey : y ≡ (plain_plan c).ey) where
     shown : Fits (plain_job c) true (plain_shape c)
     shown = fits (ltb c.n c.m) c.diagonal c.n c.m
 
-    pub plain_ready : {cells : ℕ} → cells ≡ cells_for (plain_plan c) → PlainReady c cells
-    plain_ready {cells} e = prepared_for (planned c w low) (offs c) e cells (omega arith)
+    pub plain_ready : {cells : ℕ} → cells ≡ cells_for (plain_plan c) → (size : ℕ) → cells ≤ size → PlainReady c size
+    plain_ready e size h = prepared_for (planned c w low) (offs c) e size h
 
     pub plain-last : PlainReady c 3712
     plain-last = prepared-last (planned c w low) (offs c)
 
-    pub plain-numbers : (es : List (List ℕ)) (before after : List ℕ) (x : Ranked) → PlainNumbers c es before after x → NumbersOf (plain_job c) es before after x
+    pub plain-numbers : (es : List (List ℕ)) (before after : List ℕ) (x : Result ℕ Refusal) → PlainNumbers c es before after x → NumbersOf (plain_job c) es before after x
     plain-numbers es before after x h = plan_numbers (plain_job c) (plain_shape c) shown (plan_of c w low) es before after x h
 
-    pub plain-builds : (ns steps ends : List ℕ) (x : Built) (t u : List ℕ) → PlainBuilds c ns steps ends t u x → BuildsOf (plain_job c) ns steps ends t u x
+    pub plain-builds : (ns steps ends : List ℕ) (x : Result ℕ Refusal) (t u : List ℕ) → PlainBuilds c ns steps ends t u x → BuildsOf (plain_job c) ns steps ends t u x
     plain-builds ns steps ends x t u h = plan_builds (plain_job c) (plain_shape c) shown (plan_of c w low) ns steps ends x t u h
 
 -- ---- the held job
@@ -297,11 +296,11 @@ levelled (as_plain d e v) = level-within v
 plain-job : {j : Job} {J : rules.Job} → AsPlain j J → J ≡ plain_job (plain_of j)
 plain-job {j} (as_plain d {m} e v) =
     let h : j.m - 128 ≡ m = omega (arith, v.m_is) in
-    rw (ap (λ (f : ℕ). eqb f 3) e, three-is d, h)
+    rw (ap crosses e, crossing d, h)
   where
-    three-is : (d : Bool) → eqb (pick d 3 1) 3 ≡ d
-    three-is true = refl
-    three-is false = refl
+    crossing : (d : Bool) → crosses (pick d Delannoy NorthEast) ≡ d
+    crossing true = refl
+    crossing false = refl
 
 module _ (b : List ℕ) (j : Job) (k : Kept b j) (q : plain (family_of b) ≡ true) where
   pub plain-level : Levelled j

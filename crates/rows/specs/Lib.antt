@@ -1,4 +1,5 @@
 pub mod Calls
 pub mod Plains
 pub mod Rows
+pub mod Strings
 pub mod Meets

@@ -11,15 +11,15 @@ use Rattle.rules.specs.Questions.{edges_answer}
 use Rattle.lines.specs.Lines.{cut_from, lines}
 use Rattle.lines.specs.Ranks.{ranks, ranks_answer}
 use Rattle.lines.specs.Mine.{CountsFor, RanksFor, LinesFor}
-use Rattle.lines.specs.declared.Building.{Building}
-use Rattle.lines.specs.declared.Counting.{Counting}
-use Rattle.lines.specs.declared.Numbering.{Numbering}
+use Rattle.std.specs.Prelude.{Result, Option}
+use Rattle.job.specs.declared.Refusal.{Refusal}
+use Rattle.lines.specs.declared.Unanswered.{Unanswered}
 
-abbrev pub CountMeets : List ℕ → Counting → Type 0
+abbrev pub CountMeets : List ℕ → Option (Result ℕ Refusal) → Type 0
 CountMeets block r = CountsFor (plain (family_of block)) (count_answer block) r
 
-abbrev pub NumberAllMeets : List ℕ → List ℕ → ℕ → List ℕ → List ℕ → Numbering → List ℕ → Type 0
+abbrev pub NumberAllMeets : List ℕ → List ℕ → ℕ → List ℕ → List ℕ → Option (Result ℕ Unanswered) → List ℕ → Type 0
 NumberAllMeets block bytes from ends numbers r numbers_after = RanksFor (plain (family_of block)) (ranks (ranks_answer block (cut_from from ends bytes)) (length ends) numbers) r numbers numbers_after
 
-abbrev pub BuildAllMeets : List ℕ → List ℕ → List ℕ → List ℕ → Building → List ℕ → List ℕ → Type 0
+abbrev pub BuildAllMeets : List ℕ → List ℕ → List ℕ → List ℕ → Option (Result ℕ Unanswered) → List ℕ → List ℕ → Type 0
 BuildAllMeets block numbers steps ends r steps-after ends-after = LinesFor (plain (family_of block)) (lines (edges_answer block numbers) numbers steps ends) r steps ends steps-after ends-after

@@ -1,5 +1,6 @@
 -- Families 1 and 3: their plan and their steps, and what is said of their table by these.
 --
+--   crosses f                the family f has a step D
 --   plain_of j               the end of the held job j, and whether it has a step D
 --   plain_job c              the job of document 01 with that end
 --   plain_count c            its count, or refusal 4
@@ -13,17 +14,18 @@
 --   PlainSizes, PlainReady, PlainBlank, PlainReadable    SizesFor, PreparedFor, Blank and Readable by that plan and these steps
 --   plain_walks, plain_valid, plain_number, PlainRank, PlainRanks, PlainNumbers, plain_edge, PlainLists, PlainBuilds    walks_for, valid_for, rank_for, RankFor, FrontIn, NumbersFor, edge_for,
 --                            ListsFor and BuildsFor by them
-use Rattle.std.specs.Prelude.{ℕ, ◌+◌, ◌-◌, ◌*◌, ◌≤◌, Bool, true, not, ◌&&◌, List, [], ◌∷◌, map, ◌==◌, nat_lt, slice_index}
+use Rattle.std.specs.Prelude.{ℕ, ◌+◌, ◌-◌, ◌*◌, ◌≤◌, Bool, true, false, not, ◌&&◌, List, [], ◌∷◌, map, ◌==◌, nat_lt, slice_index}
 use Rattle.howmany.specs.Choose.{pick, bit}
 use Rattle.rules.specs.Jobs as rules
 use Rattle.rules.specs.Jobs.Job.{north_east, delannoy}
 use Rattle.rules.specs.Refusals.{Answer}
 use Rattle.plains.specs.Plains.{plain_answer}
+use Rattle.job.specs.declared.Family.{Family}
+use Rattle.job.specs.declared.Family.TheVariants.{Delannoy}
 use Rattle.job.specs.declared.Job.{Job}
-use Rattle.job.specs.declared.Built.{Built}
+use Rattle.std.specs.Prelude.{Result, Option}
+use Rattle.job.specs.declared.Refusal.{Refusal}
 use Rattle.rows.specs.declared.plain.Plain.{Plain}
-use Rattle.lines.specs.declared.Rank.{Rank}
-use Rattle.lines.specs.declared.Ranked.{Ranked}
 use Rattle.lines.specs.Ranks.{RankIs, FrontIn}
 use Rattle.tables.specs.declared.Plan.{Plan}
 use Rattle.tables.specs.Form.{unwalled}
@@ -31,8 +33,13 @@ use Rattle.tables.specs.Cells.{place}
 use Rattle.tables.specs.Plans.{stride_for, SizesFor, PreparedFor, walks_for, valid_for, rank_for, NumbersFor, edge_for, ListsFor, BuildsFor}
 use Rattle.tables.specs.Filling.{Blank, Readable}
 
+-- "3 Delannoy"
+abbrev pub crosses : Family → Bool
+crosses Delannoy = true
+crosses _ = false
+
 abbrev pub plain_of : Job → Plain
-plain_of j = record { n = j.n; m = j.m - 128; diagonal = (j.family == 3) }
+plain_of j = record { n = j.n; m = j.m - 128; diagonal = crosses j.family }
 
 -- "1 North-East", "3 Delannoy": "n, m 0 to 64", the end "(n,m)", "free"
 abbrev pub plain_job : Plain → rules.Job
@@ -111,7 +118,7 @@ abbrev pub plain_number : Plain → List ℕ → ℕ
 plain_number c e = rank_for true (plain_plan c) (plain_right c) (plain_up c) e
 
 -- r says the number of the edge e, or that it is none
-abbrev pub PlainRank : Plain → List ℕ → Rank → Type 0
+abbrev pub PlainRank : Plain → List ℕ → Option ℕ → Type 0
 PlainRank c e r = RankIs (plain_valid c e) (plain_number c e) r
 
 -- the numbers of n edges of es written, up to the first that is none
@@ -119,7 +126,7 @@ abbrev pub PlainRanks : Plain → List (List ℕ) → List ℕ → List ℕ → 
 PlainRanks c es before after n = FrontIn (plain_valid c) (plain_number c) es before after n
 
 -- those numbers, or refusal 4
-abbrev pub PlainNumbers : Plain → List (List ℕ) → List ℕ → List ℕ → Ranked → Type 0
+abbrev pub PlainNumbers : Plain → List (List ℕ) → List ℕ → List ℕ → Result ℕ Refusal → Type 0
 PlainNumbers c es before after r = NumbersFor true (plain_plan c) (plain_right c) (plain_up c) es before after r
 
 -- the edge of the number r
@@ -131,5 +138,5 @@ abbrev pub PlainLists : Plain → List ℕ → List ℕ → List ℕ → List �
 PlainLists c ns steps ends after-steps after-ends at = ListsFor true (plain_plan c) (plain_right c) (plain_up c) ns steps ends after-steps after-ends at
 
 -- those edges written, or refusal 4 or 6
-abbrev pub PlainBuilds : Plain → List ℕ → List ℕ → List ℕ → List ℕ → List ℕ → Built → Type 0
+abbrev pub PlainBuilds : Plain → List ℕ → List ℕ → List ℕ → List ℕ → List ℕ → Result ℕ Refusal → Type 0
 PlainBuilds c ns steps ends after-steps after-ends r = BuildsFor true (plain_plan c) (plain_right c) (plain_up c) ns steps ends after-steps after-ends r

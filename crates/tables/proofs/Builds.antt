@@ -1,6 +1,6 @@
 -- The reply to building edges, for each way over the table. Assumes nothing.
 --
---   front_of_lem                    an edge copied from the end of a buffer
+--   front_copied                an edge copied from the end of a buffer
 --   front-next                  it is the next of the lines
 --   below-told                  a test of the numbers against the table's count
 --   for_over, for_beyond, for_all    what is answered by the table's count and the numbers
@@ -20,16 +20,16 @@ use Rattle.howmany.proofs.Choices.{holds}
 use Rattle.rules.specs.Jobs as rules
 use Rattle.rules.specs.Counts.{count_of}
 use Rattle.rules.specs.Numbers.{edge_of}
-use Rattle.rules.specs.Refusals.{check, refusal_number}
+use Rattle.rules.specs.Refusals.{check}
 use Rattle.rules.specs.Refusals.Refusal.{over, beyond}
 use Rattle.rules.specs.Refusals.Answer.{accepted}
-use Rattle.rules.specs.Answers.{most, written}
+use Rattle.rules.specs.Answers.{most}
 use Rattle.rules.specs.Packs.{joined}
 use Rattle.rules.specs.Questions.{all_below}
 use Rattle.rules.proofs.Belows.{below_at, below_not}
-use Rattle.job.specs.Replies.{BuiltAs}
-use Rattle.job.specs.declared.Built.{Built}
-use Rattle.job.specs.declared.Built.TheVariants.{Length, Refused}
+use Rattle.std.specs.Prelude.{Result, Ok, Err}
+use Rattle.job.specs.declared.Refusal.{Refusal}
+use Rattle.job.specs.declared.Refusal.TheVariants.{Over, Beyond}
 use Rattle.lines.specs.Lines.{ends_from, lined, LinedAs}
 use Rattle.lines.proofs.Lining.{Lining, lining_next, lined-refused}
 use Rattle.tables.specs.Edges as edges
@@ -44,14 +44,10 @@ use Rattle.tables.proofs.Counted.{plan_count}
 
 -- ---- one edge, and all of them
 
-pub front_of_lem : (e buf old new : List ℕ) (at len : ℕ) (x : Built) → drop at buf ≡ e → at ≤ 128 → length buf ≡ 128 → len ≡ 128 → 128 ≤ length old
-    → BuiltAs (written (accepted (take (len - at) (drop at buf))) old) x new → Front e old new (128 - at)
-unfolding written
-front_of_lem e buf old new at len x q a l z h b =
+pub front_copied : (e buf old part : List ℕ) (at len : ℕ) → drop at buf ≡ e → at ≤ 128 → length buf ≡ 128 → len ≡ 128 → part ≡ take (len - at) (drop at buf) → Front e old (part ++ drop (128 - at) old) (128 - at)
+front_copied e buf old part at len q a l z h =
     let whole : take (len - at) (drop at buf) ≡ e = take_all (len - at) (drop at buf) (omega (arith, length-drop at buf)) ∙ q in
-    let long : 128 - at ≡ length e = omega (arith, length-drop at buf, ap length q) in
-    let c = rw (whole, le-leb (length e) (length old) (omega arith)) at b.output in
-    record { shown = c ∙ ap (λ (k : ℕ). e ++ drop k old) (sym long); long = long; short = omega arith }
+    record { shown = ap (λ (x : List ℕ). x ++ drop (128 - at) old) (h ∙ whole); long = omega (arith, length-drop at buf, ap length q); short = omega arith }
 
 pub front-next : (g : ℕ → List ℕ) (ns steps ends : List ℕ) (i at : ℕ) (s t : List ℕ) → Lining g ns steps ends i at s t
     → (n : ℕ) (part : List ℕ) → i < length ns → Front (g (get_or ns i 0)) (take (length s - at) (drop at s)) part n
@@ -64,37 +60,33 @@ pub below-told : (ns : List ℕ) (w c : ℕ) (t : Bool) → c ≡ w → t ≡ al
 below-told ns w c t e q = sym (q ∙ ap (λ (z : ℕ). all_below z ns) e)
 
 module _ (lettered : Bool) (p : Plan) (sa sc ns steps ends : List ℕ) where
-  pub for_over : 2 ^ 64 ≤ walks_for p sa sc → BuildsFor lettered p sa sc ns steps ends steps ends (Refused 4)
-  unfolding refusal_number
-  for_over l = lined-refused (edges_for lettered p.k p.wall sa sc p.ex p.ey ns) over 4 steps ends (rw (lt-leb (walks_for p sa sc) most (omega arith)) refl) refl
+  pub for_over : 2 ^ 64 ≤ walks_for p sa sc → BuildsFor lettered p sa sc ns steps ends steps ends (Err Over)
+  for_over l = lined-refused (edges_for lettered p.k p.wall sa sc p.ex p.ey ns) over Over steps ends (rw (lt-leb (walks_for p sa sc) most (omega arith)) refl) refl
 
-  pub for_beyond : walks_for p sa sc < 2 ^ 64 → all_below (walks_for p sa sc) ns ≡ false → BuildsFor lettered p sa sc ns steps ends steps ends (Refused 6)
-  unfolding refusal_number
+  pub for_beyond : walks_for p sa sc < 2 ^ 64 → all_below (walks_for p sa sc) ns ≡ false → BuildsFor lettered p sa sc ns steps ends steps ends (Err Beyond)
   for_beyond l e =
-      lined-refused (edges_for lettered p.k p.wall sa sc p.ex p.ey ns) beyond 6 steps ends (rw (le-leb (walks_for p sa sc) most (omega arith), e) refl) refl
+      lined-refused (edges_for lettered p.k p.wall sa sc p.ex p.ey ns) beyond Beyond steps ends (rw (le-leb (walks_for p sa sc) most (omega arith), e) refl) refl
 
   pub for_all : (n : ℕ) (s t : List ℕ) → walks_for p sa sc < 2 ^ 64 → all_below (walks_for p sa sc) ns ≡ true
-      → ListsFor lettered p sa sc ns steps ends s t n → BuildsFor lettered p sa sc ns steps ends s t (Length n)
+      → ListsFor lettered p sa sc ns steps ends s t n → BuildsFor lettered p sa sc ns steps ends s t (Ok n)
   for_all n s t l e w = rw (le-leb (walks_for p sa sc) most (omega arith), e) w
 
 -- ---- by the job's count
 
 module _ (J : rules.Job) (ns steps ends : List ℕ) where
-  pub build-over : 2 ^ 64 ≤ count_of J → BuildsOf J ns steps ends steps ends (Refused 4)
-  unfolding refusal_number
-  build-over l = lined-refused (edges_of J ns) over 4 steps ends (rw (lt-leb (count_of J) most (omega arith)) refl) refl
+  pub build-over : 2 ^ 64 ≤ count_of J → BuildsOf J ns steps ends steps ends (Err Over)
+  build-over l = lined-refused (edges_of J ns) over Over steps ends (rw (lt-leb (count_of J) most (omega arith)) refl) refl
 
-  pub build-none : count_of J ≡ 0 → (length ns ≡ 0 → ⊥) → BuildsOf J ns steps ends steps ends (Refused 6)
-  unfolding refusal_number
+  pub build-none : count_of J ≡ 0 → (length ns ≡ 0 → ⊥) → BuildsOf J ns steps ends steps ends (Err Beyond)
   build-none e n =
-      lined-refused (edges_of J ns) beyond 6 steps ends
+      lined-refused (edges_of J ns) beyond Beyond steps ends
       (rw (le-leb (count_of J) most (omega arith), below_not (count_of J) ns 0 (omega arith) (omega arith)) refl) refl
 
-  pub build-empty : count_of J ≡ 0 → length ns ≡ 0 → BuildsOf J ns steps ends steps ends (Length 0)
+  pub build-empty : count_of J ≡ 0 → length ns ≡ 0 → BuildsOf J ns steps ends steps ends (Ok 0)
   unfolding lined joined ends_from all_below
   build-empty e n = rw (le-leb (count_of J) most (omega arith)) (go ns n)
     where
-      go : (ns : List ℕ) → length ns ≡ 0 → LinedAs (lined (check (all_below (count_of J) ns) beyond (accepted (map (edge_of J) ns))) steps ends) (Length 0) steps ends
+      go : (ns : List ℕ) → length ns ≡ 0 → LinedAs (lined (check (all_below (count_of J) ns) beyond (accepted (map (edge_of J) ns))) steps ends) (Ok 0) steps ends
       go [] n = record { says = refl; bytes = refl; places = refl }
       go (x ∷ ns) n = absurd (omega arith)
 
@@ -118,5 +110,5 @@ module _ (J : rules.Job) (s : Shape) {lettered : Bool} (f : Fits J lettered s) {
           (same_edges by (edge_of J) (count_of J) ns (shape-spells f.gridded s f.shows) (below_at (count_of J) ns (holds e)))
       go false e = refl
 
-  pub plan_builds : (ns steps ends : List ℕ) (x : Built) (t u : List ℕ) → BuildsFor lettered p s.sa s.sc ns steps ends t u x → BuildsOf J ns steps ends t u x
+  pub plan_builds : (ns steps ends : List ℕ) (x : Result ℕ Refusal) (t u : List ℕ) → BuildsFor lettered p s.sa s.sc ns steps ends t u x → BuildsOf J ns steps ends t u x
   plan_builds ns steps ends x t u l = rw (plan_edges ns) at l

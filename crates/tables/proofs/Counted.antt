@@ -1,14 +1,13 @@
 -- Counts and numbers of a job, from its shape and its table. Assumes nothing.
 --
 --   Working J s                                the shape has steps and an end to be worked out
---   state_none, state_empty, state_working     what a shape's state says
 --   counts-over, counts-value, counts-told     the reply for each way to a count
 --   shaped_in                                  the shape of the job that a held one stands for is that of its block
 --   numbers-over, numbers-none                 what is answered to a list of edges without a table
 --   ranks-over, ranks_fit                      and with one, where the count needs more than 64 bits and where it fits
 --   plan_count, plan_numbers                   what the table of a shape's plan says is the job's
 use mathlib.Core.Path.{◌≡◌, refl, sym, ap, ◌∙◌}
-use mathlib.Core.Bool.{Bool, false}
+use mathlib.Core.Bool.{Bool}
 use mathlib.Core.List.{List, [], ◌∷◌}
 use Prim.Native.Nat.{ℕ, ◌^◌, ◌≤◌, ◌<◌}
 use native.Mathlib.Omega.{arith}
@@ -19,94 +18,71 @@ use Rattle.rules.specs.Jobs as rules
 use Rattle.rules.specs.Counts.{count_of}
 use Rattle.rules.specs.Valid.{is_edge, Valid}
 use Rattle.rules.specs.Numbers.{number_of}
-use Rattle.rules.specs.Refusals.{check, refusal_number}
+use Rattle.rules.specs.Refusals.{check}
 use Rattle.rules.specs.Refusals.Refusal.{over}
 use Rattle.rules.specs.Refusals.Answer.{accepted}
 use Rattle.rules.specs.Answers.{most}
 use Rattle.job.specs.declared.Job.{Job}
-use Rattle.job.specs.declared.Counted.{Counted}
-use Rattle.job.specs.declared.Counted.TheVariants.{Count as Counts, Refused}
+use Rattle.std.specs.Prelude.{Result, Ok, Err, Option, Some, None}
+use Rattle.job.specs.declared.Refusal.{Refusal}
+use Rattle.job.specs.declared.Refusal.TheVariants.{Over}
 use Rattle.job.proofs.Standing.{Kept}
-use Rattle.lines.specs.declared.Ranked.{Ranked}
-use Rattle.lines.specs.declared.Ranked.TheVariants.{Upto, Refused as RanksRefused}
 use Rattle.lines.specs.Ranks.{front_by, FrontIn, ranks_of, ranked, RankedAs}
 use Rattle.lines.proofs.Ranking.{front_cong, ranked-of, ranked-refused}
 use Rattle.tables.specs.Cells.{cap_of}
-use Rattle.tables.specs.Shapes.{FormOf, Fits, Shaped, ShapedFor}
+use Rattle.tables.specs.Shapes.{Fits, ShapedFor}
 use Rattle.tables.specs.Edges as edges
 use Rattle.tables.specs.Numbering.{table_ranks}
-use Rattle.tables.specs.Shapes.Shaped.{worked, nothing}
 use Rattle.lines.specs.Known.{CountsOf, ranks_from, NumbersOf}
 use Rattle.tables.specs.Calls.{ShapedIn, counted_of}
 use Rattle.tables.specs.Plans.{PlanOf, walks_for, valid_for, rank_for, NumbersFor}
 use Rattle.tables.specs.declared.Plan.{Plan}
 use Rattle.tables.specs.declared.Shape.{Shape}
-use Rattle.tables.specs.declared.Tally as counts
-use Rattle.tables.specs.declared.Tally.TheVariants.{Count, Over}
 use Rattle.tables.proofs.Laws.{cap_count, cap_over}
 use Rattle.tables.proofs.Worded.{shape-count, shape-edge, shape-number}
 
-pub record Working (J : rules.Job) (s : Shape) : Type 0 where
-  pub form : FormOf s
-  pub fits : Fits J false s
-
-module _ (J : rules.Job) (s : Shape) where
-  pub state_none : Shaped J s → s.state ≡ 1 → count_of J ≡ 0
-  state_none (worked e f g) h = absurd (omega arith)
-  state_none (nothing e z n) h = z
-
-  pub state_empty : Shaped J s → s.state ≡ 1 → (e : List ℕ) → Valid J e → ⊥
-  state_empty (worked e f g) h = absurd (omega arith)
-  state_empty (nothing e z n) h = n
-
-  pub state_working : Shaped J s → (s.state ≡ 1 → ⊥) → Working J s
-  state_working (worked e f g) a = record { form = f; fits = g }
-  state_working (nothing e z n) a = absurd (a e)
-
 -- ---- the reply to a count
 
-pub counts-over : (J : rules.Job) → 2 ^ 64 ≤ count_of J → CountsOf J (Refused 4)
-unfolding refusal_number
+pub counts-over : (J : rules.Job) → 2 ^ 64 ≤ count_of J → CountsOf J (Err Over)
 counts-over J l = rw (lt-leb (count_of J) most (omega arith)) refl
 
-pub counts-value : (J : rules.Job) (c : ℕ) → count_of J ≡ c → c < 2 ^ 64 → CountsOf J (Counts c)
+pub counts-value : (J : rules.Job) (c : ℕ) → count_of J ≡ c → c < 2 ^ 64 → CountsOf J (Ok c)
 counts-value J c e l = rw (e, le-leb c most (omega arith)) refl
 
 -- what is told of the table's answer is the job's count
-pub counts-told : (J : rules.Job) {w : ℕ} {a : counts.Tally} {x : Counted} → w ≡ count_of J → a ≡ cap_of w → x ≡ counted_of a → CountsOf J x
+pub counts-told : (J : rules.Job) {w : ℕ} {a : Option ℕ} {x : Result ℕ Refusal} → w ≡ count_of J → a ≡ cap_of w → x ≡ counted_of a → CountsOf J x
 counts-told J {w} e q t = rw t (go _ q)
   where
-    go : (a : counts.Tally) → a ≡ cap_of w → CountsOf J (counted_of a)
-    go (Count c) q = let z = cap_count w c (sym q) in counts-value J c (sym e ∙ z.0) (omega (arith, z))
-    go Over q = counts-over J (omega (arith, cap_over w (sym q)))
+    go : (a : Option ℕ) → a ≡ cap_of w → CountsOf J (counted_of a)
+    go (Some c) q = let z = cap_count w c (sym q) in counts-value J c (sym e ∙ z.0) (omega (arith, z))
+    go None q = counts-over J (omega (arith, cap_over w (sym q)))
 
 -- ---- the ways through a block
 
-pub shaped_in : (b : List ℕ) (j : Job) (k : Kept b j) {s : Shape} → ShapedFor j s → ShapedIn b s
+pub shaped_in : (b : List ℕ) (j : Job) (k : Kept b j) {s : Option Shape} → ShapedFor j s → ShapedIn b s
 shaped_in b j k w = record { shape = record { job = k.job; shaped = w k.job k.stands }; answer = k.answer }
 
 -- ---- numbers
 
 module _ (J : rules.Job) (es : List (List ℕ)) (before : List ℕ) where
-  pub numbers-over : 2 ^ 64 ≤ count_of J → NumbersOf J es before before (RanksRefused 4)
-  unfolding refusal_number
-  numbers-over l = ranked-refused (ranks_from J es) over 4 before (rw (lt-leb (count_of J) most (omega arith)) refl) refl
+  pub numbers-over : 2 ^ 64 ≤ count_of J → NumbersOf J es before before (Err Over)
+  numbers-over l = ranked-refused (ranks_from J es) over Over before (rw (lt-leb (count_of J) most (omega arith)) refl) refl
 
-  pub numbers-none : count_of J ≡ 0 → ((e : List ℕ) → Valid J e → ⊥) → NumbersOf J es before before (Upto 0)
+  pub numbers-none : count_of J ≡ 0 → ((e : List ℕ) → Valid J e → ⊥) → NumbersOf J es before before (Ok 0)
   unfolding ranked Valid front_by
   numbers-none z n = rw (le-leb (count_of J) most (omega arith)) (go es)
     where
-      go : (es : List (List ℕ)) → RankedAs (ranked (accepted (ranks_of J es)) before) (Upto 0) before
+      go : (es : List (List ℕ)) → RankedAs (ranked (accepted (ranks_of J es)) before) (Ok 0) before
       go [] = record { says = refl; numbers_are = refl }
       go (e ∷ es) = rw (is_false (is_edge J e) (n e)) (record { says = refl; numbers_are = refl })
 
 module _ (lettered : Bool) (p : Plan) (sa sc : List ℕ) (es : List (List ℕ)) (before : List ℕ) where
-  pub ranks-over : 2 ^ 64 ≤ walks_for p sa sc → NumbersFor lettered p sa sc es before before (RanksRefused 4)
-  unfolding table_ranks refusal_number
+  pub ranks-over : 2 ^ 64 ≤ walks_for p sa sc → NumbersFor lettered p sa sc es before before (Err Over)
+  unfolding table_ranks
   ranks-over l =
-      ranked-refused (table_ranks lettered p.k p.wall sa sc p.ex p.ey es) over 4 before (rw (lt-leb (walks_for p sa sc) most (omega arith)) refl) refl
+      ranked-refused (table_ranks lettered p.k p.wall sa sc p.ex p.ey es) over Over before (rw (lt-leb (walks_for p sa sc) most (omega arith)) refl) refl
 
-  pub ranks_fit : (after : List ℕ) (n : ℕ) → walks_for p sa sc < 2 ^ 64 → FrontIn (valid_for lettered p sa sc) (rank_for lettered p sa sc) es before after n → NumbersFor lettered p sa sc es before after (Upto n)
+  pub ranks_fit : (after : List ℕ) (n : ℕ) → walks_for p sa sc < 2 ^ 64 → FrontIn (valid_for lettered p sa sc) (rank_for lettered p sa sc) es before after n → NumbersFor lettered p sa sc es before after (Ok n)
   unfolding table_ranks
   ranks_fit after n l w =
       rw (le-leb (walks_for p sa sc) most (omega arith)) (ranked-of (valid_for lettered p sa sc) (rank_for lettered p sa sc) es before after n w)
@@ -116,7 +92,7 @@ module _ (J : rules.Job) (s : Shape) {lettered : Bool} (f : Fits J lettered s) {
   plan_count = rw (po.k_is, po.wall_is, po.ex_is, po.ey_is) (shape-count f.gridded s f.shows)
 
   -- the table's answer is the job's, in the job's letters
-  pub plan_numbers : (es : List (List ℕ)) (before after : List ℕ) (x : Ranked)
+  pub plan_numbers : (es : List (List ℕ)) (before after : List ℕ) (x : Result ℕ Refusal)
       → NumbersFor lettered p s.sa s.sc es before after x → NumbersOf J es before after x
   unfolding table_ranks
   plan_numbers es before after x h = rw same at h

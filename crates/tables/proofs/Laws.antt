@@ -30,8 +30,7 @@ use Rattle.howmany.specs.Sum.{sum}
 use Rattle.howmany.proofs.Sums.{sum-suc, sum_mono}
 use Rattle.backward.specs.Grid.{Onward}
 use Rattle.backward.proofs.Grids.{paths-start, paths-step, paths_outside}
-use Rattle.tables.specs.declared.Tally.{Tally}
-use Rattle.tables.specs.declared.Tally.TheVariants.{Count, Over}
+use Rattle.std.specs.Prelude.{Option, Some, None}
 use Rattle.tables.specs.Form.{wall, steps_in, spot, walks_to, via}
 use Rattle.tables.specs.Cells.{cap_by, cap_of, cell_of, Put}
 use Rattle.tables.proofs.Walls.{tested, wall-start}
@@ -109,43 +108,43 @@ module _ (k : ℕ) (f : Wall) (sa sc : List ℕ) where
 
 -- ---- answers
 
-pub cap_lt : (w : ℕ) → w < 2 ^ 64 → cap_of w ≡ Count w
+pub cap_lt : (w : ℕ) → w < 2 ^ 64 → cap_of w ≡ Some w
 unfolding cap_of
 cap_lt w h = rw (lt-ltb w (2 ^ 64) h)
 
-pub cap_ge : (w : ℕ) → 2 ^ 64 ≤ w → cap_of w ≡ Over
+pub cap_ge : (w : ℕ) → 2 ^ 64 ≤ w → cap_of w ≡ None
 unfolding cap_of
 cap_ge w h = rw (le-ltb w (2 ^ 64) h)
 
-cap_by-count : (b : Bool) (w v : ℕ) → cap_by b w ≡ Count v → (b ≡ true) × (w ≡ v)
+cap_by-count : (b : Bool) (w v : ℕ) → cap_by b w ≡ Some v → (b ≡ true) × (w ≡ v)
 cap_by-count true w v e = (refl, cc)
 cap_by-count false w v e = (cc, cc)
 
-cap_by-over : (b : Bool) (w : ℕ) → cap_by b w ≡ Over → b ≡ false
+cap_by-over : (b : Bool) (w : ℕ) → cap_by b w ≡ None → b ≡ false
 cap_by-over true w e = cc
 cap_by-over false w e = refl
 
-pub cap_count : (w v : ℕ) → cap_of w ≡ Count v → (w ≡ v) × (w < 2 ^ 64)
+pub cap_count : (w v : ℕ) → cap_of w ≡ Some v → (w ≡ v) × (w < 2 ^ 64)
 unfolding cap_of
 cap_count w v e = let p = cap_by-count (ltb w (2 ^ 64)) w v e in (p.1, ltb-true w (2 ^ 64) p.0)
 
-pub cap_over : (w : ℕ) → cap_of w ≡ Over → 2 ^ 64 ≤ w
+pub cap_over : (w : ℕ) → cap_of w ≡ None → 2 ^ 64 ≤ w
 unfolding cap_of
 cap_over w e = ltb-false w (2 ^ 64) (cap_by-over (ltb w (2 ^ 64)) w e)
 
-pub count-over : {r : Tally} {c : ℕ} → r ≡ Count c → r ≡ Over → ⊥
+pub count-over : {r : Option ℕ} {c : ℕ} → r ≡ Some c → r ≡ None → ⊥
 count-over e o = let z : ◌≡◌ {A = ℕ} 0 1 = cc in omega arith
 
-pub cell-zero : (v o : ℕ) → o ≡ 0 → cell_of v o ≡ Count v
+pub cell-zero : (v o : ℕ) → o ≡ 0 → cell_of v o ≡ Some v
 unfolding cell_of
 cell-zero v o e = rw (eq-eqb o 0 e)
 
-pub cell-over : (v o : ℕ) → (o ≡ 0 → ⊥) → cell_of v o ≡ Over
+pub cell-over : (v o : ℕ) → (o ≡ 0 → ⊥) → cell_of v o ≡ None
 unfolding cell_of
 cell-over v o e = rw (ne_eqb o 0 e)
 
 -- a cell of a number that fits has it
-cell_by : (b : Bool) (v w : ℕ) → pick b (Count v) Over ≡ Count w → v ≡ w
+cell_by : (b : Bool) (v w : ℕ) → pick b (Some v) None ≡ Some w → v ≡ w
 cell_by true v w e = cc
 cell_by false v w e = cc
 
@@ -155,24 +154,24 @@ cell-value v o w e h = cell_by (eqb o 0) v w (e ∙ cap_lt w h)
 
 -- the loop over the steps: g i is what step i brings, n how many steps there are, r the answer for step i
 module _ (g : ℕ → ℕ) (i n acc : ℕ) (at : acc ≡ sum g i) where
-  pub total-done : i ≤ n → n ≤ i → acc < 2 ^ 64 → Count acc ≡ cap_of (sum g n)
+  pub total-done : i ≤ n → n ≤ i → acc < 2 ^ 64 → Some acc ≡ cap_of (sum g n)
   total-done p q h = let e : i ≡ n = omega arith in let s : acc ≡ sum g n = at ∙ ap (sum g) e in rw (← s) (sym (cap_lt acc h))
 
-  module _ (l : i < n) (r : Tally) (is : r ≡ cap_of (g i)) where
+  module _ (l : i < n) (r : Option ℕ) (is : r ≡ cap_of (g i)) where
     above : sum g i + g i ≤ sum g n
     above = omega (arith, sum_mono g (i + 1) n (omega arith), sum_more g i)
 
-    pub total-over : r ≡ Over → Over ≡ cap_of (sum g n)
+    pub total-over : r ≡ None → None ≡ cap_of (sum g n)
     total-over o = sym (cap_ge _ (omega (arith, above, cap_over (g i) (sym is ∙ o))))
 
-    module _ (v : ℕ) (o : r ≡ Count v) where
+    module _ (v : ℕ) (o : r ≡ Some v) where
       pub total-more : acc + v ≡ sum g (i + 1)
       total-more = omega (arith, sum_more g i, cap_count (g i) v (sym is ∙ o))
 
-      pub total_wraps : 18446744073709551615 - acc < v → Over ≡ cap_of (sum g n)
+      pub total_wraps : 18446744073709551615 - acc < v → None ≡ cap_of (sum g n)
       total_wraps h = sym (cap_ge _ (omega (arith, above, cap_count (g i) v (sym is ∙ o))))
 
-pub put_is : (v o : List ℕ) (i a b : ℕ) (r : Tally) → i < length v → i < length o → cell_of a b ≡ r → Put v o (set v i a) (set o i b) i r
+pub put_is : (v o : List ℕ) (i a b : ℕ) (r : Option ℕ) → i < length v → i < length o → cell_of a b ≡ r → Put v o (set v i a) (set o i b) i r
 put_is v o i a b r h l e = record {
   here = rw (get_or-set_same v i a 0 h, get_or-set_same o i b 0 l) e;
   elsewhere = λ j m. rw (get_or-set_other v i j a 0 m, get_or-set_other o i j b 0 m);

@@ -1,9 +1,8 @@
 -- Laws of lower heights: slopes and heights over one step more, and what a shape in lower heights shows. Assumes nothing.
 --
---   Until, until_none, until_more, until_idle, until_all    a loop of which only the first k turns do something
---   slope-low, slope-high                   a step's slope, by how many columns it goes on
---   bounds-none, bounds-low, bounds-high, bounds-at    a slope that bounds the first steps, one step more, all steps
---   heights_none, heights_more              the heights of the first steps, and of one more
+--   Until, until_more, until_idle, until_all    a loop of which only the first k turns do something
+--   bounds-low, bounds-high, bounds-at    a slope that bounds the first steps, one step more, all steps
+--   heights_more                            the heights of one step more
 --   view_lowered                            a shape slid down or mirrored shows what it did
 --   shows_same, beyond-same                 two grids with the same steps are shown alike, and have the same ends out of reach
 --   beyond-barren                           nothing leads to such an end
@@ -12,24 +11,22 @@ use mathlib.Core.Bool.{Bool, true, false}
 use mathlib.Core.List.{List}
 use Prim.Native.Nat.{ℕ, ◌+◌, ◌*◌, ◌-◌, ◌≤◌, ◌<◌}
 use native.Mathlib.Decide.{dec_lt}
-use native.Mathlib.Nat.{not-suc-le-zero, mul-le-mul, le_trans, le_refl}
+use native.Mathlib.Nat.{mul-le-mul, le_trans, le_refl}
 use native.Mathlib.Omega.{arith}
 use borrow.Author.Count.{below_more}
-use lib.ListN.{get_or, set, replicate, length-set}
+use lib.ListN.{get_or, set, length-set}
 use lib.Seq.{get_or-set_other}
-use Rattle.howmany.proofs.Cases.{eight}
 use Rattle.backward.specs.Walk.{enter}
 use Rattle.backward.specs.Grid.{Spot, Steps, grid, way}
 use Rattle.backward.specs.Shears.{Slid}
 use Rattle.backward.proofs.Carried.{Barren}
 use Rattle.backward.proofs.Shears.{below-barren, above-barren, enter-barren}
-use Rattle.job.proofs.Puts.{zeros-at}
 use Rattle.tables.specs.Form.{Slight}
 use Rattle.tables.specs.Heights.{Height, Bounds, Heights, Turned}
+use Rattle.std.specs.Prelude.{Some}
 use Rattle.tables.specs.Shapes.{FormOf, Shows, steps_at, end_at, Beyond, Lowered, View}
 use Rattle.tables.specs.Shapes.Shows.{slid, mirrored}
 use Rattle.tables.specs.Shapes.Beyond.{below, above}
-use Rattle.tables.specs.Shapes.Lowered.{reached}
 use Rattle.tables.specs.declared.Shape.{Shape}
 use Rattle.tables.proofs.Walls.{set_more}
 use Rattle.tables.proofs.Laws.{mul_bound}
@@ -42,9 +39,6 @@ pub record Until (P : ℕ → Type 0) (k i : ℕ) : Type 0 where
   pub so_far : i ≤ k → P i
   pub done : k ≤ i → P k
 
-pub until_none : {P : ℕ → Type 0} {k : ℕ} → P 0 → Until P k 0
-until_none {P} {k} q = record { so_far = λ _. q; done = λ h. let e : 0 ≡ k = omega arith in subst P e q }
-
 pub until_more : {P : ℕ → Type 0} {k i : ℕ} → i < k → P (i + 1) → Until P k (i + 1)
 until_more {P} {k} {i} l q = record { so_far = λ _. q; done = λ h. let e : i + 1 ≡ k = omega arith in subst P e q }
 
@@ -53,17 +47,6 @@ until_idle l u = record { so_far = λ h. absurd (omega arith); done = λ _. u.do
 
 pub until_all : {P : ℕ → Type 0} {k i : ℕ} → Until P k i → k ≤ 8 → 8 ≤ i → P k
 until_all u l h = u.done (omega arith)
-
--- ---- slopes
-
-pub slope-low : (r a b c : ℕ) → a ≡ b → r * b ≤ c → r * a ≤ c
-slope-low r a b c e h = rw e h
-
-pub slope-high : (r a b c : ℕ) → a ≡ b → c ≤ r * b → c ≤ r * a
-slope-high r a b c e h = rw e h
-
-pub bounds-none : (t : Bool) (d : ℕ) (sa sc : List ℕ) → d ≤ 6 → Bounds t d 0 sa sc
-bounds-none t d sa sc l = record { small = l; each = λ i h. absurd (not-suc-le-zero h) }
 
 module _ (sa sc : List ℕ) (d e i : ℕ) where
   pub bounds-low : Bounds false d i sa sc → e ≤ d → e * get_or sa i 0 ≤ get_or sc i 0 → Bounds false e (i + 1) sa sc
@@ -84,13 +67,6 @@ bounds-at b e = rw e at b
 
 -- ---- heights
 
-pub heights_none : (t : Bool) (d : ℕ) (sa sc : List ℕ) → Heights t d sa sc (replicate 8 0) 0
-heights_none t d sa sc = record {
-  eight = refl;
-  each = λ j l. absurd (not-suc-le-zero l);
-  flat = λ j l h. zeros-at 8 j;
-}
-
 module _ (t : Bool) (d : ℕ) (sa sc up : List ℕ) (i y : ℕ) (w : Heights t d sa sc up i) (l : i < 8) (e : Height t (get_or sc i 0) (d * get_or sa i 0) y) where
   pub heights_more : Heights t d sa sc (set up i y) (i + 1)
   heights_more = record {
@@ -103,7 +79,7 @@ module _ (t : Bool) (d : ℕ) (sa sc up : List ℕ) (i y : ℕ) (w : Heights t d
 
 module _ (s : Shape) (d : ℕ) (f : Wall) (ey : ℕ) (up : List ℕ) where
   abbrev seen : Shape
-  seen = record { state = s.state; k = s.k; wall = f; top = s.top; ex = s.ex; ey = ey; sa = s.sa; sc = up }
+  seen = record { k = s.k; wall = f; top = s.top; ex = s.ex; ey = ey; sa = s.sa; sc = up }
 
   -- slid heights are no more than before, 3a + 3 at most; a mirrored one is 6a - c at most, and c is 3a - 3 at least
   there : (t : Bool) → View t d s → Heights t d s.sa s.sc up s.k → (i : ℕ) → i < s.k → get_or up i 0 ≤ s.top
@@ -152,8 +128,8 @@ module _ (s : Shape) (d : ℕ) (f : Wall) (ey : ℕ) (up : List ℕ) where
   shows false w h u = slid d (record { many = refl; right = λ i l. refl; up = u.each; wall = w }) (refl, h)
   shows true w h u = mirrored d (record { many = refl; right = λ i l. refl; up = u.each; wall = w }) (refl, h)
 
-  pub view_lowered : (t : Bool) → View t d s → Slight f × Turned t s.wall d f → Height t s.ey (d * s.ex) ey → Heights t d s.sa s.sc up s.k → Lowered s seen
-  view_lowered t v w h u = reached v.gentle.state_is (form t v w.0 h u) (shows t w.1 h u)
+  pub view_lowered : (t : Bool) → View t d s → Slight f × Turned t s.wall d f → Height t s.ey (d * s.ex) ey → Heights t d s.sa s.sc up s.k → Lowered s (Some seen)
+  view_lowered t v w h u = (form t v w.0 h u, shows t w.1 h u)
 
 -- ---- two grids with the same steps
 

@@ -23,7 +23,7 @@ use borrow.Author.Tests.{eq-eqb, ne_eqb}
 use Rattle.howmany.specs.Sum.{sum}
 use Rattle.howmany.proofs.Choices.{is_false}
 use Rattle.howmany.proofs.Sums.{sum-none, sum_cong, sum_mono, sum_below}
-use Rattle.lines.specs.declared.Rank.TheVariants.{At, NoEdge}
+use Rattle.std.specs.Prelude.{Some, None}
 use Rattle.backward.specs.Reader.{rank, count}
 use Rattle.backward.specs.Grid.{grid, paths}
 use Rattle.backward.proofs.Backward.{rank_below}
@@ -208,7 +208,7 @@ end_is fu = stand-is fu (end-stand fu refl)
 
 module _ (lettered : Bool) {p : plans.Plan} {sa sc off val : List ℕ} (e : List ℕ) (fu : Readable p sa sc off val) {cell : ℕ} (ep : cell ≡ end_for p) where
   -- the end's cell says whether a walk leads there at all
-  pub not_there : get_or val cell 0 ≡ 0 → RankFor lettered p sa sc e NoEdge
+  pub not_there : get_or val cell 0 ≡ 0 → RankFor lettered p sa sc e None
   not_there z =
       sym (ok-all lettered p.k p.wall sa sc e p.ex p.ey)
       ∙ barren lettered p.k p.wall sa sc (pos_of fu.ready.slopes) e (length e) p.ex p.ey (sym (stand-is fu (end-stand fu ep)) ∙ z)
@@ -243,7 +243,7 @@ module _ {lettered : Bool} {p : plans.Plan} {sa sc off val e : List ℕ} where
     pub walking-reads : Reads p.k p.wall sa sc off val x y cell
     walking-reads = reads_at w.full w.stand w.inside
 
-    no_edge : ok lettered p.k p.wall sa sc e i x y ≡ false → RankFor lettered p sa sc e NoEdge
+    no_edge : ok lettered p.k p.wall sa sc e i x y ≡ false → RankFor lettered p sa sc e None
     no_edge o = sym w.same ∙ o
 
     -- what the steps before l bring fits beside what is summed
@@ -251,7 +251,7 @@ module _ {lettered : Bool} {p : plans.Plan} {sa sc off val e : List ℕ} where
     walking-fits l b ev = omega (arith, reads-sum walking-reads l b, sum_mono each l p.k b, all-le w.full w.stand w.inside, w.under, w.full.fits)
 
     module _ (h : 0 < i) {l : ℕ} (q : l ≡ ordinal_of lettered (get_or e (i - 1) 0)) where
-      pub not_letter : p.k ≤ l → RankFor lettered p sa sc e NoEdge
+      pub not_letter : p.k ≤ l → RankFor lettered p sa sc e None
       not_letter o = no_edge (ok_no_letter lettered p.k p.wall sa sc e pos i x y l h q w.inside o)
 
       module _ (b : l < p.k) {from : ℕ} (ef : from ≡ cell - get_or off l 0) where
@@ -259,7 +259,7 @@ module _ {lettered : Bool} {p : plans.Plan} {sa sc off val e : List ℕ} where
         brought-is = ap (λ (z : ℕ). get_or val z 0) ef ∙ walking-reads.says l b
 
         -- a step to a zero leads out of the grid, or to where no walk does
-        pub not_back : get_or val from 0 ≡ 0 → RankFor lettered p sa sc e NoEdge
+        pub not_back : get_or val from 0 ≡ 0 → RankFor lettered p sa sc e None
         not_back z = no_edge (elim (dec_le (get_or sa l 0) x) [
           | yes a ↦ elim (dec_le (get_or sc l 0) y) [
             | yes c ↦ ok_step lettered p.k p.wall sa sc e pos i x y l h q w.inside b a c
@@ -287,10 +287,10 @@ module _ {lettered : Bool} {p : plans.Plan} {sa sc off val e : List ℕ} where
             }
 
     module _ (h : i ≤ 0) {start : ℕ} (es : start ≡ start_for p) where
-      pub not_start : (cell ≡ start → ⊥) → RankFor lettered p sa sc e NoEdge
+      pub not_start : (cell ≡ start → ⊥) → RankFor lettered p sa sc e None
       not_start n = let o = stand-apart w.full w.stand es n in no_edge (sym (ok_end lettered p.k p.wall sa sc e i x y h) ∙ ne_eqb (x + y) 0 (λ q. omega arith))
 
-      pub walking-end : cell ≡ start → RankFor lettered p sa sc e (At acc)
+      pub walking-end : cell ≡ start → RankFor lettered p sa sc e (Some acc)
       walking-end q = let o = stand-start w.full w.stand es q in (
         sym w.same ∙ sym (ok_end lettered p.k p.wall sa sc e i x y h) ∙ eq-eqb (x + y) 0 (omega arith),
         omega (arith, w.total, num-none lettered p.k p.wall sa sc e i x y h),

@@ -23,8 +23,7 @@ use lib.Seq.{get_or-set_same, get_or-set_other}
 use borrow.Author.Tests.{ne_eqb}
 use Rattle.job.proofs.Puts.{zeros-at}
 use Rattle.howmany.specs.Sum.{sum}
-use Rattle.tables.specs.declared.Tally.{Tally}
-use Rattle.tables.specs.declared.Tally.TheVariants.{Count, Over}
+use Rattle.std.specs.Prelude.{Option, Some, None}
 use Rattle.tables.specs.declared.Plan.{Plan}
 use Rattle.tables.specs.Form.{walks_to, via}
 use Rattle.tables.specs.Cells.{cap_of, cell_at, Put, stride_of, place, source_of}
@@ -150,7 +149,7 @@ module _ {p : Plan} {sa sc off : List ℕ} {val₀ ov₀ : List ℕ} {x from to 
         ∙ rw (add-zero (source_of sa off x (place p.deep p.ey x y) i), add-zero y) at (brings s.turn.ready.slopes s.turn.ready.offs s.turn.table.cells s.turn.end y 0 i l
         (omega (arith, s.up.under)) (omega (arith, s.fr.ends)))
 
-    pub part-more : (v' o' : List ℕ) (r : Tally) (q : ℕ) → q ≡ place p.deep p.ey x y → Put val ov v' o' q r → Totals sa off val ov x q r → Part p sa sc x from val₀ ov₀ v' o' (y + 1)
+    pub part-more : (v' o' : List ℕ) (r : Option ℕ) (q : ℕ) → q ≡ place p.deep p.ey x y → Put val ov v' o' q r → Totals sa off val ov x q r → Part p sa sc x from val₀ ov₀ v' o' (y + 1)
     part-more v' o' r q e pu tot = record {
       before = λ j l. pu.elsewhere j (λ z. omega arith) ∙ pt.before j l;
       after = λ j l. pu.elsewhere j (λ z. omega arith) ∙ pt.after j (omega arith);
@@ -173,7 +172,7 @@ module _ {p : Plan} {sa sc off : List ℕ} {val₀ ov₀ : List ℕ} {x from to 
 
 -- total
 
-pub said : (sa off val ov : List ℕ) (x p : ℕ) (g : ℕ → ℕ) → Says sa off val ov x p g → (i : ℕ) → i < 8 → {s : ℕ} {r : Tally} → s ≡ source_of sa off x p i → r ≡ cell_at val ov s
+pub said : (sa off val ov : List ℕ) (x p : ℕ) (g : ℕ → ℕ) → Says sa off val ov x p g → (i : ℕ) → i < 8 → {s : ℕ} {r : Option ℕ} → s ≡ source_of sa off x p i → r ≡ cell_at val ov s
     → r ≡ cap_of (g i)
 said sa off val ov x p g says i l es er = er ∙ ap (cell_at val ov) es ∙ says i l
 
@@ -201,25 +200,25 @@ pub last_row : (ex s : ℕ) → (ex + 1) * s + s ≡ (ex + 2) * s
 last_row ex s = let e : ex + 1 + 1 ≡ ex + 2 = omega arith in sym (one_more s (ex + 1)) ∙ ap (λ (z : ℕ). z * s) e
 
 module _ {p : Plan} {sa sc : List ℕ} (val ov : List ℕ) {x : ℕ} (t : FlaggedFor p sa sc val ov x) (e : x ≡ p.ex + 1) where
-  pub flagged_filled : {r : Tally} {at : ℕ} → r ≡ cell_at val ov at → at ≡ end_for p → Filled p sa sc val r
+  pub flagged_filled : {r : Option ℕ} {at : ℕ} → r ≡ cell_at val ov at → at ≡ end_for p → Filled p sa sc val r
   flagged_filled er ep = record {
     answer = er ∙ ap (cell_at val ov) ep ∙ t.cells.right p.ex p.ey (omega arith) (omega arith, omega arith);
     solid = λ n. record { ov = ov; flags = rw e at t.cells };
   }
 
 module _ {p : Plan} {sa sc : List ℕ} {val : List ℕ} {x : ℕ} (g : FilledTo p sa sc val x) (e : x ≡ p.ex + 1) where
-  pub filled_to-end : ((j : ℕ) → get_or val j 0 < 2 ^ 64) → {v at : ℕ} → v ≡ get_or val at 0 → at ≡ end_for p → Filled p sa sc val (Count v)
+  pub filled_to-end : ((j : ℕ) → get_or val j 0 < 2 ^ 64) → {v at : ℕ} → v ≡ get_or val at 0 → at ≡ end_for p → Filled p sa sc val (Some v)
   filled_to-end fits {v} {at} ev ep = record {
     answer = sym (cap_lt v (omega (arith, fits at))) ∙ ap cap_of (ev ∙ ap (λ (j : ℕ). get_or val j 0) ep ∙ g.table.cells.right p.ex p.ey (omega arith) (omega arith, omega arith));
     solid = λ n. record { ov = replicate 3712 0; flags = rw e at (resume val g.table fits).cells };
   }
 
 -- what the answer for the end says of the table
-module _ {p : Plan} {sa sc val : List ℕ} {r : Tally} (f : Filled p sa sc val r) where
-  pub filled_over : r ≡ Over → 2 ^ 64 ≤ walks_for p sa sc
+module _ {p : Plan} {sa sc val : List ℕ} {r : Option ℕ} (f : Filled p sa sc val r) where
+  pub filled_over : r ≡ None → 2 ^ 64 ≤ walks_for p sa sc
   filled_over e = cap_over (walks_for p sa sc) (sym f.answer ∙ e)
 
-  module _ {w : ℕ} (e : r ≡ Count w) where
+  module _ {w : ℕ} (e : r ≡ Some w) where
     pub filled_count : (w ≡ walks_for p sa sc) × (walks_for p sa sc < 2 ^ 64)
     filled_count = let h = cap_count (walks_for p sa sc) w (sym f.answer ∙ e) in (sym h.0, h.1)
 

@@ -1,25 +1,17 @@
 -- The plan of a shape, and the table that it leads to. Assumes nothing.
 --
---   stride-le                      an offset fits
 --   prepared_for, prepared-last    all that `fill` asks, for a size that has room and for the last one
 --   sizes_for                      bounds of the plan's numbers
---   blank-at                       a table of at least so many cells, all of them 0
 use mathlib.Core.Path.{◌≡◌, refl}
 use mathlib.Core.List.{List}
 use Prim.Native.Nat.{ℕ, ◌≤◌}
 use native.Mathlib.Omega.{arith}
-use lib.ListN.{length, replicate, length-replicate}
-use Rattle.job.proofs.Puts.{zeros-at}
 use Rattle.tables.specs.declared.Plan.{Plan}
 use Rattle.tables.specs.Table.{Offsets}
 use Rattle.tables.specs.Plans.{stride_for, cells_for, SizesFor, Planned, PreparedFor}
-use Rattle.tables.specs.Filling.{Blank}
-use Rattle.tables.proofs.Prepare.{ready-more, prepared}
+use Rattle.tables.proofs.Prepare.{prepared}
 
 module _ {sa sc : List ℕ} {p : Plan} (pl : Planned sa sc p) where
-  pub stride-le : stride_for p ≤ 2001
-  stride-le = omega (arith, pl.deep.le, pl.form.top_le, pl.form.ey_le)
-
   module _ {off : List ℕ} (of : Offsets sa sc off (stride_for p)) where
     pub prepared_for : {cells : ℕ} → cells ≡ cells_for p → (size : ℕ) → cells ≤ size → PreparedFor p sa sc off size
     prepared_for e size h = prepared pl.form pl.steep pl.deep pl.fewer of size (omega arith)
@@ -30,6 +22,3 @@ module _ {sa sc : List ℕ} {p : Plan} (pl : Planned sa sc p) where
     -- the last size has room for every plan
     pub prepared-last : PreparedFor p sa sc off 3712
     prepared-last = prepared_for refl 3712 sizes_for.cells
-
-pub blank-at : {p : Plan} {sa sc off : List ℕ} {n : ℕ} → PreparedFor p sa sc off n → (size : ℕ) → n ≤ size → Blank p sa sc off (replicate size 0)
-blank-at r size l = record { ready = ready-more r (length (replicate size 0)) (omega (arith, length-replicate {A = ℕ} size 0)); zero_at = zeros-at size }

@@ -1,41 +1,31 @@
 -- What is found out of a form. Assumes nothing.
 --
---   steepest_none, steepest_more, steepest_at   the steepest step, in the loop of `plan_of`
---   deepest_none, deepest_more, deepest_at      the deepest step, in the same loop
---   offset-more                                 the loop of `offsets`
---   few_not, few-yes                            `is_few`
+--   steepest_more, steepest_at                  the steepest step, in the loop of `plan_of`
+--   deepest_more, deepest_at                    the deepest step, in the same loop
+--   offset-more                                 the loop of `grid_of`
 --   ready-more                                  ready for a larger table
---   form-pos, form-near, form-far, form-low     all eight steps of a form, those that aren't there too
---   far-times                                   an offset fits
+--   form-pos                                    all eight steps of a form, those that aren't there too
 --   cells-le, prepared                          the table's size, and all that `fill` asks
 use mathlib.Core.Path.{◌≡◌}
-use mathlib.Core.Bool.{Bool, true, false}
+use mathlib.Core.Bool.{Bool}
 use mathlib.Core.List.{List}
 use Prim.Native.Nat.{ℕ, ◌+◌, ◌*◌, ◌≤◌, ◌<◌}
 use native.Mathlib.Omega.{arith}
 use native.Mathlib.Decide.{dec_lt}
-use native.Mathlib.Nat.{not-suc-le-zero, mul-le-mul_right, mul-le-mul_left, le_trans}
+use native.Mathlib.Nat.{mul-le-mul_right, mul-le-mul_left, le_trans}
 use borrow.Author.Count.{below_more}
 use lib.ListN.{length, get_or, set}
-use Rattle.howmany.proofs.Cases.{eight}
 use Rattle.tables.specs.Form.{Form}
 use Rattle.tables.specs.Cells.{stride_of}
 use Rattle.tables.specs.Table.{Steepest, Deepest, Few, Offsets, Prepared}
 use Rattle.tables.proofs.Walls.{set_more}
-use Rattle.tables.proofs.Laws.{mul_bound}
 use Rattle.tables.specs.declared.Wall.{Wall}
-
-pub steepest_none : (sa sc : List ℕ) (ex : ℕ) → Steepest sa sc ex 0 0
-steepest_none sa sc ex = record { le = omega arith; all = λ i l. absurd (not-suc-le-zero l) }
 
 pub steepest_more : {sa sc : List ℕ} {ex r i : ℕ} → Steepest sa sc ex r i → (q : ℕ) → r ≤ q → q ≤ 72 → (get_or sa i 0 ≤ ex → 6 * get_or sc i 0 ≤ q * get_or sa i 0) → Steepest sa sc ex q (i + 1)
 steepest_more {sa} {sc} {ex} {r} {i} s q h l e = record {
   le = l;
   all = below_more (λ j. get_or sa j 0 ≤ ex → 6 * get_or sc j 0 ≤ q * get_or sa j 0) i (λ j m t. le_trans (s.all j m t) (mul-le-mul_right (get_or sa j 0) h)) e;
 }
-
-pub deepest_none : (sa sc : List ℕ) (top ex : ℕ) → Deepest sa sc top ex 0 0
-deepest_none sa sc top ex = record { le = omega arith; all = λ i l. absurd (not-suc-le-zero l) }
 
 pub deepest_more : {sa sc : List ℕ} {top ex r i : ℕ} → Deepest sa sc top ex r i → (q : ℕ) → r ≤ q → q ≤ top → (get_or sa i 0 ≤ ex → get_or sc i 0 ≤ q) → Deepest sa sc top ex q (i + 1)
 deepest_more {sa} {sc} {top} {ex} {r} {i} s q h l e = record {
@@ -57,27 +47,9 @@ offset-more sa sc off stride i v all l e = set_more off i v (λ j o. o ≡ get_o
 pub ready-more : {few : Bool} {k : ℕ} {f : Wall} {sa sc off : List ℕ} {hi m ex ey size : ℕ} → Prepared few k f sa sc off hi m ex ey size → (larger : ℕ) → size ≤ larger → Prepared few k f sa sc off hi m ex ey larger
 ready-more r larger l = record { sizes = r.sizes; slopes = r.slopes; offs = r.offs; fewer = r.fewer; room = omega (arith, r.room) }
 
-pub few_not : (sa : List ℕ) (ex : ℕ) → Few false sa ex
-few_not sa ex = record { gone = λ e i p q. let z : ◌≡◌ {A = ℕ} 0 1 = cc in absurd (omega arith) }
-
-pub few-yes : (sa : List ℕ) (ex : ℕ) → ex < get_or sa 4 0 → ex < get_or sa 5 0 → ex < get_or sa 6 0 → ex < get_or sa 7 0 → Few true sa ex
-few-yes sa ex a b c d = record { gone = λ e i p q. eight (λ j. 4 ≤ j → ex < get_or sa j 0) (λ h. absurd (omega arith)) (λ h. absurd (omega arith)) (λ h. absurd (omega arith)) (λ h. absurd (omega arith)) (λ h. a) (λ h. b) (λ h. c) (λ h. d) i q p }
-
 module _ {k : ℕ} {f : Wall} {sa sc : List ℕ} {top ex ey : ℕ} (fo : Form k f sa sc top ex ey) where
   pub form-pos : (i : ℕ) → i < 8 → 1 ≤ get_or sa i 0
   form-pos i l = elim (dec_lt i k) [ yes h ↦ fo.ahead i h | no h ↦ omega (arith, fo.away i (omega arith) l) ]
-
-  pub form-near : (i : ℕ) → i < 8 → get_or sa i 0 ≤ ex → get_or sa i 0 ≤ 3
-  form-near i l e = elim (dec_lt i k) [ yes h ↦ fo.near i h | no h ↦ absurd (omega (arith, fo.away i (omega arith) l, fo.ex_le)) ]
-
-  pub form-far : (i : ℕ) → i < 8 → get_or sa i 0 ≤ 100
-  form-far i l = elim (dec_lt i k) [ yes h ↦ omega (arith, fo.near i h) | no h ↦ omega (arith, fo.away i (omega arith) l) ]
-
-  pub form-low : (i : ℕ) → i < 8 → get_or sc i 0 ≤ 12
-  form-low i l = omega (arith, fo.low i l, fo.top_le)
-
-  pub far-times : (i stride : ℕ) → i < 8 → stride ≤ 2001 → get_or sa i 0 * stride ≤ 100 * 2001
-  far-times i stride l h = mul_bound (get_or sa i 0) stride 100 2001 (form-far i l) h
 
   module _ {hi m : ℕ} (st : Steepest sa sc ex hi 8) (de : Deepest sa sc top ex m 8) where
     pub cells-le : (ex + 2) * stride_of m ey ≤ 3712

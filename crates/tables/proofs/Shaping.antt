@@ -1,26 +1,19 @@
 -- Laws of the shapes of families 6 and 7: how steps are laid one by one, and what each shape says of its job. Assumes nothing.
 --
---   laid-start, laid_more                  the steps, one more at a time
---   laid-below, laid-above, laid-worked    what the state of the own shape says
---   laid-gentle                            that shape is one that can be lowered
---   beyond-shaped                          the shape of a job of the grid whose end no step leads to
+--   laid_more                              one step more
+--   beyond-shaped                          a job of the grid whose end no step leads to
 --   small, directed-shaped                 the job is in range; the lowered shape
---   fence-fenced                           the fence of family 6 or 7
 --   stands-ranged, shaped-by               the same by what a held job stands for
 use mathlib.Core.Path.{◌≡◌, refl, sym, ap, ◌∙◌, subst}
 use mathlib.Core.Bool.{Bool, true, false}
 use mathlib.Core.List.{List}
 use Prim.Native.Nat.{ℕ, suc, ◌+◌, ◌*◌, ◌-◌, ◌≤◌, ◌<◌}
-use native.Mathlib.Decide.{dec_lt}
-use native.Mathlib.Nat.{not-suc-le-zero}
 use native.Mathlib.Omega.{arith}
 use lib.Dec.{T, leb, le→leb}
 use lib.IntN.{ℤ, pos, negsuc}
-use lib.ListN.{get_or, set, replicate, length-set}
+use lib.ListN.{get_or, set, length-set}
 use lib.Seq.{get_or-set_other}
-use borrow.Author.Tests.{lt-ltb, le-ltb}
-use Rattle.howmany.specs.Choose.{pick, bit}
-use Rattle.howmany.proofs.Cases.{eight}
+use Rattle.howmany.specs.Choose.{pick}
 use Rattle.backward.specs.Grid.{Spot, Steps, grid, paths}
 use Rattle.backward.specs.Shears.{Slid}
 use Rattle.backward.proofs.Carried.{barren-count}
@@ -37,17 +30,17 @@ use Rattle.rules.proofs.Signed.{is-shift, is_up, is-lift, is-apart}
 use Rattle.rules.proofs.Sheared.{some_end}
 use Rattle.rules.proofs.Ranges.{Small}
 use Rattle.rules.proofs.Slopes.{W-none, slope_shear}
+use Rattle.job.specs.declared.Family.{Family}
+use Rattle.job.specs.declared.Family.TheVariants.{Open as OpenFamily, Fenced as FencedFamily}
 use Rattle.job.specs.declared.Job.{Job}
-use Rattle.job.proofs.Puts.{zeros-at}
-use Rattle.job.specs.Stands.{Directed, Stands}
+use Rattle.job.specs.Stands.{Directed, family_number, Stands}
 use Rattle.job.proofs.Sorts.{AsDirected, directed_of}
 use Rattle.job.proofs.Sorts.AsDirected.{as_directed}
 use Rattle.tables.specs.declared.Wall.{Wall}
 use Rattle.tables.specs.Form.{wall, fence_of}
-use Rattle.tables.specs.Shapes.{steps_at, end_at, Shaped, ShapedFor, Ranged, Fenced, Laying, Laid, Gentle, Beyond, Lowered, Chosen}
-use Rattle.tables.specs.Shapes.Lowered.{reached, unreached}
+use Rattle.std.specs.Prelude.{Option, Some, None}
+use Rattle.tables.specs.Shapes.{steps_at, end_at, Nothing, Shaped, ShapedFor, Ranged, Laying, Laid, Beyond, Lowered, Chosen}
 use Rattle.tables.specs.Shapes.Chosen.{sunk, lowered}
-use Rattle.tables.specs.Shapes.Shaped.{worked, nothing}
 use Rattle.tables.specs.declared.Shape.{Shape}
 use Rattle.tables.proofs.Walls.{set_more, fence-is}
 use Rattle.tables.specs.Gridded.{entered, Gridded}
@@ -55,16 +48,6 @@ use Rattle.tables.proofs.Gridded.{directed-gridded}
 use Rattle.tables.proofs.Lowering.{shows_same, beyond-same, beyond-barren}
 
 -- ---- the steps
-
-pub laid-start : (a b : List ℕ) → Laying a b (replicate 8 100) (replicate 8 0) 0
-laid-start a b = record {
-  eight = refl;
-  eight_too = refl;
-  right = λ j l. absurd (not-suc-le-zero l);
-  up = λ j l. absurd (not-suc-le-zero l);
-  away = λ j l. eight (λ i. ◌≡◌ {A = ℕ} (get_or (replicate 8 100) i 0) 100) refl refl refl refl refl refl refl refl j;
-  flat = λ j l h. zeros-at 8 j;
-}
 
 module _ (a b sa sc : List ℕ) (i x y : ℕ) (w : Laying a b sa sc i) (l : i < 8) (ex : x ≡ get_or a i 0) (ey : y ≡ get_or b i 0 + 3 * get_or a i 0 - 128) where
   pub laid_more : Laying a b (set sa i x) (set sc i y) (i + 1)
@@ -77,48 +60,12 @@ module _ (a b sa sc : List ℕ) (i x y : ℕ) (w : Laying a b sa sc i) (l : i < 
     flat = λ j h k. get_or-set_other sc i j y 0 (λ e. omega arith) ∙ w.flat j (omega arith) k;
   }
 
-module _ (j : Job) (f : Wall) (s : Shape) (w : Laid j f s) where
-  -- the state says whether the end is below 0
-  state_below : j.m + 3 * j.n < 128 → s.state ≡ 1
-  state_below l = w.state_is ∙ ap bit (lt-ltb (j.m + 3 * j.n) 128 l)
-
-  state_above : 128 ≤ j.m + 3 * j.n → s.state ≡ 0
-  state_above l = w.state_is ∙ ap bit (le-ltb (j.m + 3 * j.n) 128 l)
-
-  laid-below : s.state ≡ 1 → j.m + 3 * j.n < 128
-  laid-below q = elim (dec_lt (j.m + 3 * j.n) 128) [ yes l ↦ l | no l ↦ absurd (omega (arith, state_above (omega arith))) ]
-
-  laid-above : s.state ≡ 0 → 128 ≤ j.m + 3 * j.n
-  laid-above q = elim (dec_lt (j.m + 3 * j.n) 128) [ yes l ↦ absurd (omega (arith, state_below l)) | no l ↦ omega arith ]
-
-  pub laid-worked : (s.state ≡ 1 → ⊥) → s.state ≡ 0
-  laid-worked q = elim (dec_lt (j.m + 3 * j.n) 128) [ yes l ↦ absurd (q (state_below l)) | no l ↦ state_above (omega arith) ]
-
-  module _ (g : Ranged j) (l : Fenced f) where
-    pub laid-gentle : s.state ≡ 0 → Gentle s
-    laid-gentle q = record {
-      state_is = q;
-      top_is = w.top_is;
-      fenced = subst Fenced (sym w.wall_is) l;
-      wide = omega (arith, w.ex_is, g.n_most);
-      some = omega (arith, w.k_is, g.some);
-      eight = w.steps.eight;
-      away = λ i l h. w.steps.away i (omega (arith, w.k_is)) h;
-      lifted = record {
-        few = omega (arith, w.k_is, g.few);
-        ahead = λ i l. omega (arith, w.steps.right i (omega (arith, w.k_is)), g.a_least i (omega (arith, w.k_is)));
-        near = λ i l. omega (arith, w.steps.right i (omega (arith, w.k_is)), g.a_most i (omega (arith, w.k_is)));
-        least = λ i h. let n : i < j.k = omega (arith, w.k_is) in omega (arith, w.steps.right i n, w.steps.up i n, g.a_least i n, g.b_least i n);
-        most = λ i h. let n : i < j.k = omega (arith, w.k_is) in omega (arith, w.steps.right i n, w.steps.up i n, g.b_most i n);
-      };
-    }
-
 -- nothing leads to an end that no step leads to
-beyond-shaped : {J : rules.Job} {lettered : Bool} {G : Steps} {q : Spot} → Gridded J lettered G q → (r : Shape) → r.state ≡ 1 → Beyond G q → Shaped J r
+beyond-shaped : {J : rules.Job} {lettered : Bool} {G : Steps} {q : Spot} → Gridded J lettered G q → Beyond G q → Nothing J
 unfolding Valid paths
-beyond-shaped {J} {lettered} {G} {q} g r e o =
+beyond-shaped {J} {lettered} {G} {q} g o =
     let b = beyond-barren G q o in
-    nothing e (g.counts ∙ barren-count (grid G) (entered G q) b) (λ z v. b (word_of J z) (subst T (g.walks z) v))
+    record { none = g.counts ∙ barren-count (grid G) (entered G q) b; empty = λ z v. b (word_of J z) (subst T (g.walks z) v) }
 
 steep : (z : ℤ) (p : ℕ) → Is z p 128 → 125 ≤ p → T (leℤ (negsuc 2) z)
 steep (pos a) p e l = tt
@@ -147,12 +94,12 @@ module _ (j : Job) (fenced : Bool) (m : ℤ) (pairs : List Pair) (d : Directed j
       let (q, a) = some_end J G (Slope 0) (slope_shear fenced 0 pairs small) e v in
       is-apart m q.y 0 (3 * j.n) t (is-shift m (q.y + 0) (3 * q.x) (q.y + 0) (3 * j.n) a.up (omega (arith, a.across))) h
 
-  sunk-shaped : (r : Shape) → r.state ≡ 1 → j.m + 3 * j.n < 128 → Shaped J r
+  sunk-shaped : j.m + 3 * j.n < 128 → Nothing J
   unfolding count_of Valid
-  sunk-shaped r e l =
+  sunk-shaped l =
       let t : ℕ = 127 - (j.m + 3 * j.n) in
       let h : Is m 0 (3 * j.n + suc t) = below t (omega arith) in
-      nothing e (W-none fenced 0 pairs small j.n t m h) (no_edge t h)
+      record { none = W-none fenced 0 pairs small j.n t m h; empty = no_edge t h }
 
   module _ (s : Shape) (w : Laid j (fence_of (pick fenced 3 0) 0) s) where
     lifted : (i : ℕ) → i < j.k → get_or j.b i 0 + 3 * get_or j.a i 0 - 128 ≡ G.c i
@@ -179,28 +126,18 @@ module _ (j : Job) (fenced : Bool) (m : ℤ) (pairs : List Pair) (d : Directed j
       up = is-shift m j.m 128 (s.ey + 0) (3 * s.ex) d.m_is (omega (arith, w.ex_is, w.ey_is));
     }
 
-    lowered-shaped : (r : Shape) → s.state ≡ 0 → Lowered s r → Shaped J r
-    lowered-shaped r q v = go v
-      where
-        own-grid : Gridded J false G (end_at s)
-        own-grid = directed-gridded fenced j.n m 0 pairs small (end_at s) (sits (laid-above j (fence_of (pick fenced 3 0) 0) s w q))
+    own-grid : Gridded J false G (end_at s)
+    own-grid = directed-gridded fenced j.n m 0 pairs small (end_at s) (sits w.above)
 
-        go : Lowered s r → Shaped J r
-        go (reached z form v) = worked z form (record { steps = G; end = end_at s; gridded = own-grid; shows = shows_same G (steps_at s) own (end_at s) r v })
-        go (unreached z o) = beyond-shaped own-grid r z (beyond-same G (steps_at s) own (end_at s) o)
+    lowered-shaped : (r : Option Shape) → Lowered s r → Shaped J r
+    lowered-shaped (Some r) v = record { form = v.0; fits = record { steps = G; end = end_at s; gridded = own-grid; shows = shows_same G (steps_at s) own (end_at s) r v.1 } }
+    lowered-shaped None o = beyond-shaped own-grid (beyond-same G (steps_at s) own (end_at s) o)
 
-  pub directed-shaped : (r : Shape) → Chosen j (fence_of (pick fenced 3 0) 0) r → Shaped J r
-  directed-shaped r (sunk w q) = sunk-shaped r q (laid-below j (fence_of (pick fenced 3 0) 0) r w q)
-  directed-shaped r (lowered s w q l) = lowered-shaped s w r q l
+  pub directed-shaped : {r : Option Shape} → Chosen j (fence_of (pick fenced 3 0) 0) r → Shaped J r
+  directed-shaped (sunk l) = sunk-shaped l
+  directed-shaped (lowered {r} s w l) = lowered-shaped s w r l
 
 -- ---- by what a held job stands for
-
-pub fence-fenced : (t : Bool) → Fenced (fence_of (pick t 3 0) 0)
-fence-fenced t = record { no_roof = refl; slope_le = low t; start_le = omega arith }
-  where
-    low : (t : Bool) → pick t 3 0 ≤ 3
-    low true = omega arith
-    low false = omega arith
 
 ranged : {j : Job} {m : ℤ} {pairs : List Pair} → Directed j m pairs → Ranged j
 ranged d = record {
@@ -214,21 +151,21 @@ ranged d = record {
   b_most = d.b_most;
 }
 
-pub stands-ranged : {j : Job} {J : rules.Job} → Stands j J → paired j.family ≡ true → Ranged j
+pub stands-ranged : {j : Job} {J : rules.Job} → Stands j J → paired (family_number j.family) ≡ true → Ranged j
 stands-ranged st q = go (directed_of st q)
   where
     go : {j : Job} {J : rules.Job} → AsDirected j J → Ranged j
     go (as_directed fenced e d) = ranged d
 
 -- family 7 has the fence of slope 3, family 6 none
-pub shaped-by : (j : Job) (s : Shape) → paired j.family ≡ true → {f : Wall} → f ≡ fence_of (pick (fenced j.family) 3 0) 0 → Chosen j f s → ShapedFor j s
+pub shaped-by : (j : Job) (s : Option Shape) → paired (family_number j.family) ≡ true → {f : Wall} → f ≡ fence_of (pick (fenced (family_number j.family)) 3 0) 0 → Chosen j f s → ShapedFor j s
 shaped-by j s q o w J st = go J (directed_of st q)
   where
-    seven : (t : Bool) → fenced (pick t 7 6) ≡ t
+    seven : (t : Bool) → fenced (family_number (pick t FencedFamily OpenFamily)) ≡ t
     seven true = refl
     seven false = refl
 
     go : (J : rules.Job) → AsDirected j J → Shaped J s
     go _ (as_directed t {m} {pairs} e d) =
-        let k : fenced j.family ≡ t = ap fenced e ∙ seven t in
-        directed-shaped j t m pairs d s (subst (λ (v : Wall). Chosen j v s) (o ∙ ap (λ (t : Bool). fence_of (pick t 3 0) 0) k) w)
+        let k : fenced (family_number j.family) ≡ t = ap (λ (f : Family). fenced (family_number f)) e ∙ seven t in
+        directed-shaped j t m pairs d (subst (λ (v : Wall). Chosen j v s) (o ∙ ap (λ (t : Bool). fence_of (pick t 3 0) 0) k) w)

@@ -8,9 +8,9 @@
 --   wall-start               every wall lets a walk begin
 --   wall-slid, wall-mirrored a fence in lower heights, and in mirrored ones; wall-free: no wall in either
 --   fenced-slight, slid-slight, mirrored-slight    each of them is low
---   fence-low, fence-under, fence-free, roof_free, roof_low, roof_high    what `fence_at` and `roof_at` find
+--   fence-above, fence-free, roof_free, roof-under    what `fence_at` and `roof_at` find
 --   sixth_of                 what `reach_of` finds
---   from-fence, from_end, to-reach, to_end                   what `from_at` and `to_at` find
+--   from-fence, from_end, to-lesser    what `from_at` and `to_at` find
 --   spans_none, spans_more, spans_all    what `spans` has before its loop, after a turn of it, and at its end; span_low, span_high: what it finds of a column
 --   wall_in                  the wall lets a walk be at the heights that matter
 use mathlib.Core.Path.{◌≡◌, refl, sym, ap, ◌∙◌}
@@ -22,6 +22,8 @@ use native.Mathlib.Nat.{add-mul, mul_comm, mul_assoc}
 use native.Mathlib.Omega.{arith}
 use lib.Dec.{T, leb, leb→le}
 use lib.ListN.{length, get_or, set}
+use Rattle.std.proofs.Common.{min}
+use Rattle.std.proofs.Math.Nat.{min-eq_left, min-eq_right}
 use lib.Seq.{get_or-set_same, get_or-set_other}
 use borrow.Author.Count.{below_more}
 use borrow.Author.Tests.{le-leb, lt-leb}
@@ -127,15 +129,12 @@ clash : {b : Bool} → b ≡ true → b ≡ false → ⊥
 clash p q = let z : ◌≡◌ {A = ℕ} 0 1 = cc in omega arith
 
 module _ (f : Wall) (x : ℕ) where
-  pub fence-low : f.roof ≡ false → f.start ≤ f.slope * x → Fence f x (f.slope * x - f.start)
-  fence-low e l = record {
+  pub fence-above : f.roof ≡ false → Fence f x (f.slope * x - f.start)
+  fence-above e = record {
     most = omega arith;
     inside = λ _. omega arith;
     least = λ y h t. omega (arith, leb→le (f.slope * x) (y + f.start) (rw (fence-is f x y e) at t));
   }
-
-  pub fence-under : f.slope * x < f.start → Fence f x 0
-  fence-under l = record { most = omega arith; inside = λ _. omega arith; least = λ y h t. omega arith }
 
   pub fence-free : f.roof ≡ true → Fence f x 0
   fence-free e = record { most = omega arith; inside = λ q. absurd (clash e q); least = λ y h t. omega arith }
@@ -144,12 +143,11 @@ module _ (f : Wall) (x : ℕ) where
     pub roof_free : f.roof ≡ false → Roof f x y y
     roof_free e = record { inside = λ q. absurd (clash q e); beyond = λ v h t. h }
 
-    module _ (e : f.roof ≡ true) where
-      pub roof_low : f.slope * x + f.start < y → Roof f x y (f.slope * x + f.start)
-      roof_low k = record { inside = λ _. omega arith; beyond = λ v h t. absurd (omega (arith, leb→le v (f.slope * x + f.start) (rw (roof_is f x v e) at t))) }
-
-      pub roof_high : y ≤ f.slope * x + f.start → Roof f x y y
-      roof_high k = record { inside = λ _. k; beyond = λ v h t. h }
+    pub roof-under : f.roof ≡ true → Roof f x y (min (f.slope * x + f.start) y)
+    roof-under e = elim (dec_le (f.slope * x + f.start) y) [
+      | yes l ↦ rw (min-eq_left l) (record { inside = λ _. omega arith; beyond = λ v h t. absurd (omega (arith, leb→le v (f.slope * x + f.start) (rw (roof_is f x v e) at t))) })
+      | no l ↦ let k : y ≤ f.slope * x + f.start = omega arith in rw (min-eq_right k) (record { inside = λ _. k; beyond = λ v h t. h })
+    ]
 
 pub sixth_of : (hi slope x : ℕ) → slope * 6 ≡ hi → hi * x ≡ 6 * (slope * x)
 sixth_of hi slope x e = rw (← e) (ap (λ (z : ℕ). z * x) (mul_comm slope 6) ∙ mul_assoc 6 slope x)
@@ -161,12 +159,13 @@ module _ {f : Wall} {hi ex ey x fence_of : ℕ} (w : Fence f x fence_of) (reach 
   pub from_end : hi * (ex - x) < 6 * reach + 6 → fence_of + reach < ey → From f hi ex ey x (ey - reach)
   from_end k h = record { inside = λ e. omega (arith, w.inside e); ends = omega arith; least = λ y m e t. omega arith }
 
-module _ {f : Wall} {hi ey x high reach : ℕ} (w : Roof f x high reach) where
-  pub to-reach : hi * x < 6 * high + 6 → reach < ey → To f hi ey x (reach + 1)
-  to-reach l h = record { under = omega arith; inside = λ e y k. omega (arith, w.inside e); beyond = λ y k e t. omega (arith, w.beyond y (omega arith) t) }
-
-  pub to_end : ey ≤ reach → To f hi ey x (ey + 1)
-  to_end h = record { under = omega arith; inside = λ e y k. omega (arith, w.inside e); beyond = λ y k e t. absurd (omega arith) }
+pub to-lesser : {f : Wall} {hi ey x high reach : ℕ} → Roof f x high reach → hi * x < 6 * high + 6 → To f hi ey x (min reach ey + 1)
+to-lesser {f} {hi} {ey} {x} {high} {reach} w l = elim (dec_le reach ey) [
+  | yes h ↦ rw (min-eq_left h) (record { under = omega arith; inside = λ e y k. omega (arith, w.inside e); beyond = λ y k e t. omega (arith, w.beyond y (omega arith) t) })
+  | no h ↦
+      let e : ey ≤ reach = omega arith in
+      rw (min-eq_right e) (record { under = omega arith; inside = λ e y k. omega (arith, w.inside e); beyond = λ y k e t. absurd (omega arith) })
+]
 
 module _ {f : Wall} {hi ex ey x from to : ℕ} (fr : From f hi ex ey x from) (up : To f hi ey x to) where
   pub wall_in : (y : ℕ) → from ≤ y → y < to → T (wall f x y)

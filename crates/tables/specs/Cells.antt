@@ -1,8 +1,8 @@
 -- The cells of the table: what they say, where they stand, and a run of them summed.
 --
---   cap_of w                  the answer for a number: itself, or Over where it needs more than 64 bits
+--   cap_of w                  the answer for a number: itself, or none where it needs more than 64 bits
 --   cap_by                    the same, by whether it fits
---   cell_of v o               what a cell of value v and flag o says: Over where the flag is not 0
+--   cell_of v o               what a cell of value v and flag o says: none where the flag is not 0
 --   cell_at val ov j          what cell j of a table with flags says
 --   Put                      a table after cell i was made to say r
 --   stride_of m ey            how many cells a column has: m zeros, and the heights 0 to ey
@@ -14,23 +14,22 @@
 use Rattle.std.specs.Prelude.{◌≡◌, Bool, true, false, List, ℕ, ◌+◌, ◌-◌, ◌*◌, ◌^◌, ◌≤◌, ◌<◌, ltb, eqb, length, get_or}
 use Rattle.howmany.specs.Choose.{pick}
 use Rattle.howmany.specs.Sum.{sum}
-use Rattle.tables.specs.declared.Tally.{Tally}
-use Rattle.tables.specs.declared.Tally.TheVariants.{Count, Over}
+use Rattle.std.specs.Prelude.{Option, Some, None}
 
-abbrev pub cap_by : Bool → ℕ → Tally
-cap_by true w = Count w
-cap_by false w = Over
+abbrev pub cap_by : Bool → ℕ → Option ℕ
+cap_by true w = Some w
+cap_by false w = None
 
-unfoldable pub cap_of : ℕ → Tally
+unfoldable pub cap_of : ℕ → Option ℕ
 cap_of w = cap_by (ltb w (2 ^ 64)) w
 
-unfoldable pub cell_of : ℕ → ℕ → Tally
-cell_of v o = pick (eqb o 0) (Count v) Over
+unfoldable pub cell_of : ℕ → ℕ → Option ℕ
+cell_of v o = pick (eqb o 0) (Some v) None
 
-abbrev pub cell_at : List ℕ → List ℕ → ℕ → Tally
+abbrev pub cell_at : List ℕ → List ℕ → ℕ → Option ℕ
 cell_at val ov j = cell_of (get_or val j 0) (get_or ov j 0)
 
-pub record Put (v o v' o' : List ℕ) (i : ℕ) (r : Tally) : Type 0 where
+pub record Put (v o v' o' : List ℕ) (i : ℕ) (r : Option ℕ) : Type 0 where
   pub here : cell_at v' o' i ≡ r
   pub elsewhere : (j : ℕ) → (j ≡ i → ⊥) → cell_at v' o' j ≡ cell_at v o j
 

@@ -11,14 +11,13 @@
 --   Parts      what the eight steps bring to cell p of column x can be read
 --   Says       what that is; Totals: r says their sum
 --   AllRight      with flags beside them all cells that matter are right
---   Filled     the answer for the end, and a table filled where it isn't Over
+--   Filled     the answer for the end, and a table filled where there is one
 --   Readable       a filled table, and the end's count fits
 --   Legible        the same of some steps, where only their offsets are at hand
 --   BySteps        P holds of all steps whose readable table this is
 use Rattle.std.specs.Prelude.{◌≡◌, Bool, true, List, ℕ, ◌+◌, ◌^◌, ◌≤◌, ◌<◌, length, get_or}
 use Rattle.howmany.specs.Sum.{sum}
-use Rattle.tables.specs.declared.Tally.{Tally}
-use Rattle.tables.specs.declared.Tally.TheVariants.{Over}
+use Rattle.std.specs.Prelude.{Option, None}
 use Rattle.tables.specs.declared.Plan.{Plan}
 use Rattle.tables.specs.Form.{walks_to}
 use Rattle.tables.specs.Cells.{cap_of, cell_at, place, source_of}
@@ -77,16 +76,16 @@ pub record Parts (sa off val ov : List ℕ) (x p : ℕ) : Type 0 where
 abbrev pub Says : List ℕ → List ℕ → List ℕ → List ℕ → ℕ → ℕ → (ℕ → ℕ) → Type 0
 Says sa off val ov x p g = (i : ℕ) → i < 8 → cell_at val ov (source_of sa off x p i) ≡ cap_of (g i)
 
-abbrev pub Totals : List ℕ → List ℕ → List ℕ → List ℕ → ℕ → ℕ → Tally → Type 0
+abbrev pub Totals : List ℕ → List ℕ → List ℕ → List ℕ → ℕ → ℕ → Option ℕ → Type 0
 Totals sa off val ov x p r = (g : ℕ → ℕ) → Says sa off val ov x p g → r ≡ cap_of (sum g 8)
 
 pub record AllRight (p : Plan) (sa sc val : List ℕ) : Type 0 where
   pub ov : List ℕ
   pub flags : Cells cap_of (cell_at val ov) p.k p.wall sa sc p.hi p.deep p.ex p.ey (p.ex + 1)
 
-pub record Filled (p : Plan) (sa sc val : List ℕ) (r : Tally) : Type 0 where
+pub record Filled (p : Plan) (sa sc val : List ℕ) (r : Option ℕ) : Type 0 where
   pub answer : r ≡ count_for p sa sc
-  pub solid : (r ≡ Over → ⊥) → AllRight p sa sc val
+  pub solid : (r ≡ None → ⊥) → AllRight p sa sc val
 
 pub record Readable (p : Plan) (sa sc off val : List ℕ) : Type 0 where
   pub ready : PreparedFor p sa sc off (length val)

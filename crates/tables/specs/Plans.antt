@@ -17,13 +17,10 @@
 --   RoomFor ns steps ends             there is room for the edges of the numbers ns
 use Rattle.std.specs.Prelude.{◌≡◌, Bool, List, ℕ, ◌+◌, ◌*◌, ◌≤◌, length}
 use Rattle.rules.specs.Refusals.Answer.{accepted}
-use Rattle.job.specs.declared.Built.{Built}
-use Rattle.job.specs.declared.Built.TheVariants.{Length}
-use Rattle.lines.specs.declared.Rank.{Rank}
-use Rattle.lines.specs.declared.Ranked.{Ranked}
+use Rattle.std.specs.Prelude.{Result, Ok, Option}
+use Rattle.job.specs.declared.Refusal.{Refusal}
 use Rattle.lines.specs.Lines.{lined, LinedAs, Room}
 use Rattle.lines.specs.Ranks.{RankIs, ranked, RankedAs}
-use Rattle.tables.specs.declared.Tally as counts
 use Rattle.tables.specs.declared.Plan.{Plan}
 use Rattle.tables.specs.declared.Shape.{Shape}
 use Rattle.tables.specs.Form.{Form, walks_to}
@@ -85,7 +82,7 @@ SpansFor p starts stops = Spans p.wall p.hi p.ex p.ey starts stops (p.ex + 1)
 abbrev pub walks_for : Plan → List ℕ → List ℕ → ℕ
 walks_for p sa sc = walks_to p.k p.wall sa sc p.ex p.ey
 
-abbrev pub count_for : Plan → List ℕ → List ℕ → counts.Tally
+abbrev pub count_for : Plan → List ℕ → List ℕ → Option ℕ
 count_for p sa sc = cap_of (walks_for p sa sc)
 
 abbrev pub valid_for : Bool → Plan → List ℕ → List ℕ → List ℕ → Bool
@@ -94,10 +91,10 @@ valid_for lettered p sa sc e = is_walk lettered p.k p.wall sa sc p.ex p.ey e
 abbrev pub rank_for : Bool → Plan → List ℕ → List ℕ → List ℕ → ℕ
 rank_for lettered p sa sc e = walk_number lettered p.k p.wall sa sc p.ex p.ey e
 
-abbrev pub RankFor : Bool → Plan → List ℕ → List ℕ → List ℕ → Rank → Type 0
+abbrev pub RankFor : Bool → Plan → List ℕ → List ℕ → List ℕ → Option ℕ → Type 0
 RankFor lettered p sa sc e r = RankIs (valid_for lettered p sa sc e) (rank_for lettered p sa sc e) r
 
-abbrev pub NumbersFor : Bool → Plan → List ℕ → List ℕ → List (List ℕ) → List ℕ → List ℕ → Ranked → Type 0
+abbrev pub NumbersFor : Bool → Plan → List ℕ → List ℕ → List (List ℕ) → List ℕ → List ℕ → Result ℕ Refusal → Type 0
 NumbersFor lettered p sa sc es before after r = RankedAs (ranked (table_ranks lettered p.k p.wall sa sc p.ex p.ey es) before) r after
 
 abbrev pub edge_for : Bool → Plan → List ℕ → List ℕ → ℕ → List ℕ
@@ -105,9 +102,9 @@ edge_for lettered p sa sc r = walk_at lettered p.k p.wall sa sc p.ex p.ey r
 
 abbrev pub ListsFor : Bool → Plan → List ℕ → List ℕ → List ℕ → List ℕ → List ℕ → List ℕ → List ℕ → ℕ → Type 0
 ListsFor lettered p sa sc ns steps ends after-steps after-ends at =
-    LinedAs (lined (accepted (edges_by lettered p.k p.wall sa sc p.ex p.ey ns)) steps ends) (Length at) after-steps after-ends
+    LinedAs (lined (accepted (edges_by lettered p.k p.wall sa sc p.ex p.ey ns)) steps ends) (Ok at) after-steps after-ends
 
-abbrev pub BuildsFor : Bool → Plan → List ℕ → List ℕ → List ℕ → List ℕ → List ℕ → List ℕ → List ℕ → Built → Type 0
+abbrev pub BuildsFor : Bool → Plan → List ℕ → List ℕ → List ℕ → List ℕ → List ℕ → List ℕ → List ℕ → Result ℕ Refusal → Type 0
 BuildsFor lettered p sa sc ns steps ends after-steps after-ends r =
     LinedAs (lined (edges_for lettered p.k p.wall sa sc p.ex p.ey ns) steps ends) r after-steps after-ends
 

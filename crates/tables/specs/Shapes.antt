@@ -4,18 +4,20 @@
 --   FormOf s            the shape s is one that the table can be filled for, with no more than the 32 columns of families 6 and 7
 --   Shows G q s         the shape s shows the grid G with the end q: slid down, or mirrored
 --   Fits J lettered s   the shape s shows a grid of the job and its end
---   Shaped J s          s says all of the job, whose edges are written in digits: its steps and end, or that nothing leads to its end
+--   Working J s         s says all of the job, whose edges are written in digits: its steps and end
+--   Nothing J           nothing leads to the job's end
+--   Shaped J s          the one of a shape, the other of none
 --   ShapedFor j s       the same, of the job that j stands for
 --   Ranged j            the ranges of families 6 and 7
 --   Fenced f            the wall f is a fence of slope 3 at most, which starts at 32 at most
---   Laying, Laid j f s  their own steps so far; their own shape, with each height as in the job's own grid
+--   Laying, Laid j f s  their own steps so far; their own shape, with each height as in the job's own grid, where the end isn't below 0
+--   Owned j f s         that shape, or none where the end is below 0
 --   Gentle s            the shape s has steps as those families have, and can be lowered
 --   Beyond G q          the end q lies below the least steep step of G, or above the steepest
---   Lowered s r         the shape r shows what s shows, or says that nothing leads to its end
+--   Lowered s r         the shape r shows what s shows, or there is none, since nothing leads to its end
 --   View t d s          what s must be to be slid down by d, or mirrored at d where t
---   Chosen j f r        the shape r of families 6 and 7
-use Rattle.std.specs.Prelude.{◌≡◌, Bool, false, List, ℕ, ◌+◌, ◌*◌, ◌-◌, ◌≤◌, ◌<◌, T, ltb, length, get_or}
-use Rattle.howmany.specs.Choose.{bit}
+--   Chosen j f r        the shape r of families 6 and 7, or none
+use Rattle.std.specs.Prelude.{◌≡◌, Bool, false, List, ℕ, ◌+◌, ◌*◌, ◌-◌, ◌≤◌, ◌<◌, T, length, get_or, Option, Some, None}
 use Rattle.backward.specs.Grid.{Spot, Steps}
 use Rattle.backward.specs.Shears.{Slid, Lower, Mirrored, Across}
 use Rattle.rules.specs.Jobs as rules
@@ -48,12 +50,20 @@ pub record Fits (J : rules.Job) (lettered : Bool) (s : Shape) : Type 0 where
   pub gridded : Gridded J lettered steps end
   pub shows : Shows steps end s
 
-pub data Shaped (J : rules.Job) (s : Shape) : Type 0 where
-  worked : s.state ≡ 0 → FormOf s → Fits J false s → Shaped J s
-  nothing : s.state ≡ 1 → count_of J ≡ 0 → ((e : List ℕ) → Valid J e → ⊥) → Shaped J s
+pub record Working (J : rules.Job) (s : Shape) : Type 0 where
+  pub form : FormOf s
+  pub fits : Fits J false s
+
+pub record Nothing (J : rules.Job) : Type 0 where
+  pub none : count_of J ≡ 0
+  pub empty : (e : List ℕ) → Valid J e → ⊥
+
+abbrev pub Shaped : rules.Job → Option Shape → Type 0
+Shaped J (Some s) = Working J s
+Shaped J None = Nothing J
 
 -- whatever job the held job j stands for
-abbrev pub ShapedFor : Job → Shape → Type 0
+abbrev pub ShapedFor : Job → Option Shape → Type 0
 ShapedFor j s = (J : rules.Job) → Stands j J → Shaped J s
 
 pub record Ranged (j : Job) : Type 0 where
@@ -81,7 +91,7 @@ pub record Laying (a b sa sc : List ℕ) (i : ℕ) : Type 0 where
   pub flat : (j : ℕ) → i ≤ j → j < 8 → get_or sc j 0 ≡ 0
 
 pub record Laid (j : Job) (f : Wall) (s : Shape) : Type 0 where
-  pub state_is : s.state ≡ bit (ltb (j.m + 3 * j.n) 128)
+  pub above : 128 ≤ j.m + 3 * j.n
   pub k_is : s.k ≡ j.k
   pub wall_is : s.wall ≡ f
   pub top_is : s.top ≡ 12
@@ -89,8 +99,12 @@ pub record Laid (j : Job) (f : Wall) (s : Shape) : Type 0 where
   pub ey_is : s.ey ≡ j.m + 3 * j.n - 128
   pub steps : Laying j.a j.b s.sa s.sc j.k
 
+-- no height of the job's own grid is below 0, so nothing leads to an end that is
+abbrev pub Owned : Job → Wall → Option Shape → Type 0
+Owned j f (Some s) = Laid j f s
+Owned j f None = j.m + 3 * j.n < 128
+
 pub record Gentle (s : Shape) : Type 0 where
-  pub state_is : s.state ≡ 0
   pub top_is : s.top ≡ 12
   pub fenced : Fenced s.wall
   pub wide : s.ex ≤ 32
@@ -103,9 +117,9 @@ pub data Beyond (G : Steps) (q : Spot) : Type 0 where
   below : (d : ℕ) → ((i : ℕ) → i < G.k → d * G.a i ≤ G.c i) → q.y < d * q.x → Beyond G q
   above : (d : ℕ) → ((i : ℕ) → i < G.k → G.c i ≤ d * G.a i) → d * q.x < q.y → Beyond G q
 
-pub data Lowered (s r : Shape) : Type 0 where
-  reached : r.state ≡ 0 → FormOf r → Shows (steps_at s) (end_at s) r → Lowered s r
-  unreached : r.state ≡ 1 → Beyond (steps_at s) (end_at s) → Lowered s r
+abbrev pub Lowered : Shape → Option Shape → Type 0
+Lowered s (Some r) = FormOf r × Shows (steps_at s) (end_at s) r
+Lowered s None = Beyond (steps_at s) (end_at s)
 
 -- a mirror's slope is no less than the fence's; the end comes to lie no higher than 3 · 32
 pub record View (t : Bool) (d : ℕ) (s : Shape) : Type 0 where
@@ -115,7 +129,6 @@ pub record View (t : Bool) (d : ℕ) (s : Shape) : Type 0 where
   pub slope : T t → s.wall.slope ≤ d
   pub near : (r : ℕ) → Height t s.ey (d * s.ex) r → r ≤ 96
 
--- no height of the job's own grid is below 0, so nothing leads to an end that is
-pub data Chosen (j : Job) (f : Wall) (r : Shape) : Type 0 where
-  sunk : Laid j f r → r.state ≡ 1 → Chosen j f r
-  lowered : (s : Shape) → Laid j f s → s.state ≡ 0 → Lowered s r → Chosen j f r
+pub data Chosen (j : Job) (f : Wall) : Option Shape → Type 0 where
+  sunk : j.m + 3 * j.n < 128 → Chosen j f None
+  lowered : {r : Option Shape} (s : Shape) → Laid j f s → Lowered s r → Chosen j f r

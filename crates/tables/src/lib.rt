@@ -3,13 +3,6 @@
 
 use job::Job;
 
-// A count, or that it needs more than 64 bits.
-#[derive(Drop)]
-pub enum Tally {
-    Count(u64),
-    Over,
-}
-
 // A line that no walk crosses: a roof y ≤ slope · x + start, or else a fence slope · x ≤ y + start. The fence of slope 0 is no wall.
 #[derive(Clone, Copy)]
 pub struct Wall {
@@ -18,10 +11,9 @@ pub struct Wall {
     pub start: usize,
 }
 
-// What the table is filled for. State 0: steps and an end; 1: nothing leads to the end.
+// What the table is filled for: steps, a wall and an end.
 #[derive(Clone, Copy)]
 pub struct Shape {
-    pub state: u8,
     pub k: usize,
     pub wall: Wall,
     pub top: usize,

@@ -4,7 +4,7 @@
 --   Checking .. i at              the strings before i are valid edges; checking_start, checking_more: none of them, and one more
 --   checked_stop, checked_all     the string at i goes wrong, or none does
 --   part-stops                    what is said of a string that is lent as a part, said of the part's bytes
---   walk_refused, walk-told, check-refused, check-told    the answers on a block
+--   answer-refused, answer-told   the answer on a block that has no job, and on one that has
 --   wrong-none, wrong-some        what the answer means, with no search in it; all_valid_lem, not_all: by the test of all edges
 use mathlib.Core.Path.{◌≡◌, refl, sym, ap, ap₂, ◌∙◌, subst}
 use mathlib.Core.Bool.{Bool, true, false, ◌&&◌, and-false}
@@ -16,25 +16,28 @@ use native.Mathlib.Omega.{arith}
 use lib.ListN.{length, get_or, drop, drop_of_length-le}
 use lib.Seq.{drop-cons}
 use denote.Ref.{Bor}
+use Rattle.std.specs.Prelude as Found
+use Rattle.std.specs.Prelude.{Some, None, Ok, Err}
 use Rattle.howmany.proofs.Choices.{is_true, is_false}
 use Rattle.rules.specs.Jobs.{Job}
 use Rattle.rules.specs.Valid.{is_edge, Valid}
 use Rattle.rules.specs.Places.{place_of, Wrong}
 use Rattle.rules.specs.Packs.{part_of}
 use Rattle.rules.specs.Questions.{all_valid}
-use Rattle.rules.specs.Refusals.{Answer, Refusal}
-use Rattle.rules.specs.Refusals.Answer.{accepted, refused}
+use Rattle.rules.specs.Refusals.{Answer, and_then}
+use Rattle.rules.specs.Refusals.Answer.{accepted}
 use Rattle.rules.proofs.Places.{place_none, place-wrong}
+use Rattle.rules.specs.Blocks.{job_answer}
+use Rattle.job.specs.declared.Job as job
+use Rattle.job.specs.declared.Refusal.{Refusal}
 use Rattle.job.specs.Parts.{PartOf}
+use Rattle.job.proofs.Standing.{Kept, Told}
 use Rattle.lines.specs.Lines.{lesser, cut_from}
 use Rattle.lines.proofs.Cutting.{part_cut}
 use Rattle.walks.specs.declared.paces.Paces.{Paces}
-use Rattle.walks.specs.declared.walking.Stop.{Stop}
-use Rattle.walks.specs.declared.walking.Stop.TheVariants.{Never, At}
-use Rattle.walks.specs.declared.Checked.{Checked}
-use Rattle.walks.specs.declared.Checked.TheVariants.{Edges, Stops}
-use Rattle.walks.specs.Walks.{first_of, first_wrong, walk_of, check_of, checked_says}
-use Rattle.walks.specs.Paces.{PacesOf, stop_says, StopsAs, ChecksAs}
+use Rattle.walks.specs.Walks.{found, finding, first_of, first_wrong}
+use Rattle.walks.proofs.Finding.{found_is}
+use Rattle.walks.specs.Paces.{PacesOf, StopsAs, ChecksAs}
 
 -- ---- a first string
 
@@ -82,57 +85,49 @@ module _ {p : Paces} {from : ℕ} {ends s : List ℕ} {i at : ℕ} (w : Checking
     unfolding cut_from
     opened J g = w.so_far J g ∙ ap (λ (z : List ℕ). shifted i (first_wrong J (cut_from at z s))) (drop-cons ends i 0 l)
 
-    pub checking_more : StopsAs p (part_of s at (get_or ends i 0)) Never → Checking p from ends s (i + 1) (get_or ends i 0)
+    pub checking_more : StopsAs p (part_of s at (get_or ends i 0)) None → Checking p from ends s (i + 1) (get_or ends i 0)
     checking_more h = record {
       passed = omega arith;
       so_far = λ J g.
           opened J g
-          ∙ ap (shifted i) (first-none J (part_of s at (get_or ends i 0)) (cut_from (get_or ends i 0) (drop (suc i) ends) s) (sym (h J g)))
+          ∙ ap (shifted i) (first-none J (part_of s at (get_or ends i 0)) (cut_from (get_or ends i 0) (drop (suc i) ends) s) (sym (found_is None _ (h J g))))
           ∙ shifted-more i (first_wrong J (cut_from (get_or ends i 0) (drop (suc i) ends) s))
           ∙ ap (λ (k : ℕ). shifted (i + 1) (first_wrong J (cut_from (get_or ends i 0) (drop k ends) s))) (sym (add-one i));
     }
 
-    pub checked_stop : (place : ℕ) → StopsAs p (part_of s at (get_or ends i 0)) (At place) → ChecksAs p (cut_from from ends s) (Stops i place)
+    pub checked_stop : (place : ℕ) → StopsAs p (part_of s at (get_or ends i 0)) (Some place) → ChecksAs p (cut_from from ends s) (Some (i, place))
     checked_stop place h J g =
         let z : i + 0 ≡ i = omega arith in
-        ap some
+        ap found
         (sym (
         opened J g
-        ∙ ap (shifted i) (first_some J (part_of s at (get_or ends i 0)) (cut_from (get_or ends i 0) (drop (suc i) ends) s) place (sym (h J g)))
+        ∙ ap (shifted i) (first_some J (part_of s at (get_or ends i 0)) (cut_from (get_or ends i 0) (drop (suc i) ends) s) place (sym (found_is (Some place) _ (h J g))))
         ∙ ap (λ (k : ℕ). some (k, place)) z
         ))
 
-  pub checked_all : length ends ≤ i → ChecksAs p (cut_from from ends s) Edges
+  pub checked_all : length ends ≤ i → ChecksAs p (cut_from from ends s) None
   unfolding cut_from
   checked_all l J g =
-      ap some
+      ap found
       (sym (w.so_far J g ∙ ap (λ (z : List ℕ). shifted i (first_wrong J (cut_from at z s))) (drop_of_length-le ends {i = i} l) ∙ ap (shifted i) (first-end J)))
 
 pub part-stops : (g : Paces) (s : Bor (List ℕ)) (at end : ℕ) (p : Bor (List ℕ)) → PartOf s (lesser at (length s.now)) end p
-    → (r : Stop) {q : Stop} → StopsAs g p.now r → r ≡ q → StopsAs g (part_of s.now at end) q
-part-stops g s at end p h r w e =
+    → (r : Found.Option ℕ) → StopsAs g p.now r → StopsAs g (part_of s.now at end) r
+part-stops g s at end p h r w =
     let b : p.now ≡ part_of s.now at end = h.bytes ∙ part_cut s.now at end in
-    subst (StopsAs g (part_of s.now at end)) e (subst (λ (z : List ℕ). StopsAs g z r) b w)
+    subst (λ (z : List ℕ). StopsAs g z r) b w
 
 -- ---- the answers on a block
 
-module _ (a : Answer Job) (e : List ℕ) where
-  pub walk_refused : {r : Refusal} → a ≡ refused r → none ≡ walk_of a e
-  walk_refused q = rw q refl
+module _ (b : List ℕ) {A : Type 0} (f : Job → Option A) where
+  abbrev asked : Answer Job → Answer (Option A)
+  asked a = and_then a (λ J. accepted (f J))
 
-  pub walk-told : {J : Job} {o : Option ℕ} → a ≡ accepted J → o ≡ place_of J e → some o ≡ walk_of a e
-  walk-told q h = rw (q, h) refl
+  pub answer-refused : {r : Refusal} → Told b r → Err r ≡ finding (asked (job_answer b))
+  answer-refused t = ap Err t.name ∙ sym (ap (λ (a : Answer Job). finding (asked a)) t.answer)
 
-module _ (a : Answer Job) (es : List (List ℕ)) where
-  pub check-refused : {r : Refusal} → a ≡ refused r → none ≡ check_of a es
-  check-refused q = rw q refl
-
-  pub check-told : {J : Job} (c : Checked) → a ≡ accepted J → checked_says c ≡ some (first_wrong J es) → checked_says c ≡ check_of a es
-  check-told c q h = h ∙ rw q refl
-
--- what is said of a string by an answer in hand
-pub stops-said : (g : Paces) (J : Job) (e : List ℕ) (r : Stop) {q : Stop} → PacesOf g J → StopsAs g e r → r ≡ q → stop_says q ≡ place_of J e
-stops-said g J e r s w q = sym (ap stop_says q) ∙ w J s
+  pub answer-told : {j : job.Job} (k : Kept b j) {o : Found.Option A} → o ≡ found (f k.job) → Ok o ≡ finding (asked (job_answer b))
+  answer-told k e = ap Ok e ∙ sym (ap (λ (a : Answer Job). finding (asked a)) k.answer)
 
 -- ---- what is answered of a list
 

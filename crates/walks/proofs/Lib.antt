@@ -1,3 +1,4 @@
+pub mod Finding
 pub mod Spots
 pub mod Pacing
 pub mod Stepping

@@ -1,20 +1,18 @@
 -- The paces of a held job are those of the job that it stands for. Assumes nothing.
 --
---   letter-capped, letter-none    a place among the first k, or k
 --   stands-paces                  what `paces_of` makes of a held job; held_n: its n is at most 64
---   held_paced                    the same of paces in hand
---   within-above, within-square, within-free, within-fence    the ways through `is_within`
+--   held_paced                    the same of paces in hand; kept_paced: of the job of a block
 use mathlib.Core.Path.{◌≡◌, refl, sym, ap, ◌∙◌, subst}
 use mathlib.Core.Logic.{◌⊎◌, inl, inr}
-use mathlib.Core.Bool.{Bool, true, false, and-false}
+use mathlib.Core.Bool.{Bool, true, false}
 use mathlib.Core.List.{List, [], ◌∷◌}
 use Prim.Native.Nat.{ℕ, suc, ◌+◌, ◌-◌, ◌*◌, ◌≤◌, ◌<◌}
 use native.Mathlib.Decide.{dec_lt}
 use native.Mathlib.Omega.{arith}
-use lib.Dec.{T, leb, ltb, eqb}
+use lib.Dec.{T, ltb, eqb}
 use lib.IntN.{ℤ, pos}
 use lib.ListN.{length, get_or}
-use borrow.Author.Tests.{lt-ltb, le-ltb, le-leb, lt-leb, ne_eqb}
+use borrow.Author.Tests.{lt-ltb, le-ltb, ne_eqb}
 use Rattle.howmany.specs.Choose.{pick}
 use Rattle.howmany.proofs.Cases.{two, three}
 use Rattle.rules.specs.Points.{Is, Point, Step, origin}
@@ -22,27 +20,18 @@ use Rattle.rules.specs.Jobs as rules
 use Rattle.rules.specs.Jobs.{Pair, N, E, D, one, step, numbered, steps_of, start_of, end_of, stays, is_directed}
 use Rattle.rules.specs.Jobs.Job.{directed}
 use Rattle.rules.specs.Valid.{place, at}
-use Rattle.walks.proofs.Spots.{and-true}
 use Rattle.rules.proofs.Slopes.{numbered-length, digit_at, digit-place}
 use Rattle.job.specs.declared.Job.{Job}
 use Rattle.job.specs.Stands.{Directed, Stands, start_held}
 use Rattle.job.specs.Stands.Stands.{as_north_east, as_dyck, as_delannoy, as_schroder, as_motzkin, as_open, as_fenced}
+use Rattle.job.proofs.Standing.{Kept}
 use Rattle.letters.specs.Letters as letters
 use Rattle.walks.specs.declared.paces.Paces.{Paces}
-use Rattle.walks.specs.Paces.{lettered_paces, paces_of, letter_of, kept_by, within, Strides, PacesOf}
+use Rattle.walks.specs.Paces.{lettered_paces, paired_paces, paces_of, letter_of, kept_by, Strides, PacesOf, Paced}
 
 -- a place among the first k, or k
 abbrev capped : ℕ → ℕ → ℕ
 capped k l = pick (ltb l k) l k
-
-module _ (lettered : Bool) (k b l : ℕ) (e : l ≡ letters.ordinal_of lettered b) where
-  pub letter-capped : l < k → l ≡ letter_of lettered k b
-  unfolding letter_of
-  letter-capped h = rw (sym e, lt-ltb l k h) refl
-
-  pub letter-none : k ≤ l → k ≡ letter_of lettered k b
-  unfolding letter_of
-  letter-none h = rw (sym e, le-ltb l k h) refl
 
 -- ---- families 1 to 5
 
@@ -156,11 +145,8 @@ digit-strides j m ps d = record {
   upward = λ i o. omega (arith, d.a_least i o, d.b_least i o);
 }
 
-abbrev own_paces : Job → Bool → Paces
-own_paces j fenced = record { lettered = false; square = false; fenced = fenced; n = j.n; m = j.m; k = j.k; a = j.a; b = j.b }
-
 directed-paced : (j : Job) (fenced : Bool) (m : ℤ) (ps : List Pair) → Directed j m ps → ((q : Point) → stays (directed fenced j.n m (start_held j) ps) q ≡ kept_by false fenced q)
-    → PacesOf (own_paces j fenced) (directed fenced j.n m (start_held j) ps)
+    → PacesOf (paired_paces fenced j) (directed fenced j.n m (start_held j) ps)
 directed-paced j fenced m ps d g = record {
   n_is = refl;
   n_most = omega (arith, d.n_most);
@@ -204,17 +190,5 @@ held_n (as_fenced e v) = omega (arith, v.n_most)
 pub held_paced : {j : Job} {J : rules.Job} {p : Paces} → p ≡ paces_of j → Stands j J → PacesOf p J
 held_paced e s = rw e (stands-paces s)
 
--- ---- what `is_within` tests
-
-module _ (lettered square fenced : Bool) (m x h : ℕ) where
-  pub within-above : lettered ≡ true → 3 * x + m < h → false ≡ within lettered square fenced m x h
-  within-above e l = rw (e, lt-leb h (3 * x + m) l) (sym (and-false (pick square (leb h (4 * x + 128)) true)))
-
-  pub within-square : lettered ≡ true → h ≤ 3 * x + m → square ≡ true → leb h (4 * x + 128) ≡ within lettered square fenced m x h
-  within-square e l q = rw (e, q, le-leb h (3 * x + m) l) (sym (and-true (leb h (4 * x + 128))))
-
-  pub within-free : lettered ≡ true → h ≤ 3 * x + m → square ≡ false → true ≡ within lettered square fenced m x h
-  within-free e l q = rw (e, q, le-leb h (3 * x + m) l) refl
-
-  pub within-fence : lettered ≡ false → fenced ≡ true → leb (3 * x + 128) h ≡ within lettered square fenced m x h
-  within-fence e q = rw (e, q) refl
+pub kept_paced : {b : List ℕ} {j : Job} {p : Paces} → Kept b j → p ≡ paces_of j → Paced p
+kept_paced k e = record { job = k.job; paces = held_paced e k.stands }

@@ -24,7 +24,7 @@ use Rattle.rules.specs.Places.{step_of, low, inside, keeps}
 use Rattle.rules.proofs.Letters.{point_eq}
 use Rattle.rules.proofs.Signed.{is_sub, is-shift, is_plus, is_one, is-fence}
 use Rattle.walks.specs.declared.paces.Paces.{Paces}
-use Rattle.walks.specs.Paces.{letter_of, within, PacesOf}
+use Rattle.walks.specs.Paces.{letter_of, within_by, within, PacesOf}
 
 -- ---- tests of a difference
 
@@ -122,11 +122,11 @@ module _ {p : Paces} {J : Job} (s : PacesOf p J) where
   spot-low : (x h : ℕ) → low J (spot x h) ≡ not p.lettered || leb h (3 * x + p.m)
   spot-low x h = ap₂ ◌||◌ s.directs (is-least (spot x h).y (end_of J).y h (3 * x + p.m) (3 * x + 128) (spot_up x h) (end-up x))
 
-  spot-within : (x h : ℕ) → stays J (spot x h) && low J (spot x h) ≡ within p.lettered p.square p.fenced p.m x h
+  spot-within : (x h : ℕ) → stays J (spot x h) && low J (spot x h) ≡ within p x h
   spot-within x h = ap₂ ◌&&◌ (spot_stays x h) (spot-low x h) ∙ go p.lettered p.square p.fenced s.apart.0 s.apart.1
     where
       go : (t q f : Bool) → (t ≡ true → f ≡ false) → (t ≡ false → q ≡ false)
-          → pick q (leb h (4 * x + 128)) (pick f (leb (3 * x + 128) h) true) && (not t || leb h (3 * x + p.m)) ≡ within t q f p.m x h
+          → pick q (leb h (4 * x + 128)) (pick f (leb (3 * x + 128) h) true) && (not t || leb h (3 * x + p.m)) ≡ within_by t q f p.m x h
       go true q f e z = rw (e refl) refl
       go false q f e z = rw (z refl) (and-true (pick f (leb (3 * x + 128) h) true))
 
@@ -161,7 +161,7 @@ module _ {p : Paces} {J : Job} (s : PacesOf p J) where
           let z = spot (right p x l) (above p h l) in
           keeps-at ∙ ap (λ (t : Bool). stays J z && (t && low J z)) (lt-leb (right p x l) p.n d) ∙ and-false (stays J z)
 
-      pub kept_on : right p x l ≤ p.n → keeps J (spot x h) b ≡ within p.lettered p.square p.fenced p.m (right p x l) (above p h l)
+      pub kept_on : right p x l ≤ p.n → keeps J (spot x h) b ≡ within p (right p x l) (above p h l)
       kept_on d =
           let z = spot (right p x l) (above p h l) in
           keeps-at ∙ ap (λ (t : Bool). stays J z && (t && low J z)) (le-leb (right p x l) p.n d) ∙ spot-within (right p x l) (above p h l)

@@ -1,7 +1,6 @@
 -- The loop of `walk_one`: what is left of the string goes on from the point at x and h. Assumes nothing.
 --
 --   Stepping p e x h i            the first i steps keep the rules, and lead to x and h; stepping_start: none of them
---   stride                        how far a step goes
 --   not_step, beyond, out         the step at i breaks a rule, so that i is the place
 --   stepping_more                 it keeps the rules
 --   not_there, not_level, arrived the string is at its end, and there or not
@@ -16,6 +15,7 @@ use lib.Dec.{leb, eqb, leb→le}
 use lib.ListN.{length, get_or, drop, drop_of_length-le}
 use lib.Seq.{drop-cons}
 use borrow.Author.Tests.{eq-eqb, ne_eqb}
+use Rattle.std.specs.Prelude.{Some, None}
 use Rattle.howmany.specs.Choose.{pick, only_if}
 use Rattle.howmany.proofs.Choices.{and_right, holds}
 use Rattle.rules.specs.Points.{Point, same, moved}
@@ -24,8 +24,8 @@ use Rattle.rules.specs.Valid.{is_edge}
 use Rattle.rules.specs.Places.{step_of, keeps, reached, stop_from, stop_of, place_of}
 use Rattle.rules.proofs.Places.{stop-on, stop-here, stop-end, arrives-is, place_is}
 use Rattle.walks.specs.declared.paces.Paces.{Paces}
-use Rattle.walks.specs.declared.walking.Stop.TheVariants.{Never, At}
-use Rattle.walks.specs.Paces.{letter_of, within, PacesOf, Paced, StopsAs}
+use Rattle.walks.specs.Walks.{found}
+use Rattle.walks.specs.Paces.{letter_of, within_by, within, PacesOf, Paced, StopsAs}
 use Rattle.walks.proofs.Spots.{spot, spot-start, right, above, kept-none, kept-beyond, kept_on, step-to, spot-end}
 
 -- how high a walk can be: never above the end where the letters are N E D, and else at most 6 for each column
@@ -59,66 +59,56 @@ stepping_start {p} {e} g = record {
     go true f = omega (arith, f refl)
     go false f = omega arith
 
--- no walk is higher than the sums of `walk_one` can be
-pub height-most : {p : Paces} {e : List ℕ} {x h i : ℕ} → Stepping p e x h i → h ≤ 512
-height-most {p} {e} {x} {h} w = go p.lettered w.h_most
-  where
-    go : (t : Bool) → h ≤ pick t (3 * x + p.m) (128 + 6 * x) → h ≤ 512
-    go true l = omega (arith, w.x_most, w.paced.paces.n_most, w.paced.paces.m_most)
-    go false l = omega (arith, w.x_most, w.paced.paces.n_most)
-
 -- ---- the place, from where the walk stops
 
-module _ (J : Job) (e : List ℕ) (i : ℕ) where
+module _ (J : Job) (e : List ℕ) where
   edge_by_lem : is_edge J e ≡ eqb (stop_of J e) (length e) && same (reached J (start_of J) e) (end_of J)
   edge_by_lem = sym (arrives-is J (start_of J) e)
 
-  place-by : (t : Bool) → is_edge J e ≡ t → stop_of J e ≡ i → place_of J e ≡ only_if (not t) i
-  place-by t q s = place_is J e ∙ ap₂ (λ (b : Bool) (k : ℕ). only_if (not b) k) q s
+  place-by : (i : ℕ) (t : Bool) → is_edge J e ≡ t → stop_of J e ≡ i → place_of J e ≡ only_if (not t) i
+  place-by i t q s = place_is J e ∙ ap₂ (λ (b : Bool) (k : ℕ). only_if (not b) k) q s
 
   -- before the string's end
-  stopped : stop_of J e ≡ i → i < length e → some i ≡ place_of J e
-  stopped s l =
+  stopped : (i : ℕ) → stop_of J e ≡ i → i < length e → some i ≡ place_of J e
+  stopped i s l =
       let q : eqb (stop_of J e) (length e) ≡ false = ne_eqb (stop_of J e) (length e) (λ z. omega arith) in
-      sym (place-by false (edge_by_lem ∙ ap (λ (b : Bool). b && same (reached J (start_of J) e) (end_of J)) q) s)
+      sym (place-by i false (edge_by_lem ∙ ap (λ (b : Bool). b && same (reached J (start_of J) e) (end_of J)) q) s)
 
   -- at its end
-  ended : stop_of J e ≡ i → i ≡ length e → (t : Bool) → same (reached J (start_of J) e) (end_of J) ≡ t → only_if (not t) i ≡ place_of J e
-  ended s l t r = sym (place-by t (edge_by_lem ∙ ap (λ (b : Bool). b && same (reached J (start_of J) e) (end_of J)) (eq-eqb (stop_of J e) (length e) (s ∙ l)) ∙ r) s)
+  ended : stop_of J e ≡ length e → (t : Bool) → same (reached J (start_of J) e) (end_of J) ≡ t → only_if (not t) (length e) ≡ place_of J e
+  ended s t r = sym (place-by (length e) t (edge_by_lem ∙ ap (λ (b : Bool). b && same (reached J (start_of J) e) (end_of J)) (eq-eqb (stop_of J e) (length e) s) ∙ r) s)
 
 module _ {p : Paces} {e : List ℕ} {x h i : ℕ} (w : Stepping p e x h i) where
-  pub stride : {l : ℕ} → l < p.k → (get_or p.a l 0 ≤ 3) × (get_or p.b l 0 ≤ 131) × (128 ≤ get_or p.b l 0 + 3 * get_or p.a l 0)
-  stride {l} o = let s = w.paced.paces.strides in (s.a_most l o, s.b_most l o, s.upward l o)
-
-  module _ (t : i < length e) {l : ℕ} (q : l ≡ letter_of p.lettered p.k (get_or e i 0)) where
+  module _ (t : i < length e) where
     -- the step at i breaks a rule
-    breaks : ((J : Job) → PacesOf p J → keeps J (spot x h) (get_or e i 0) ≡ false) → StopsAs p e (At i)
+    breaks : ((J : Job) → PacesOf p J → keeps J (spot x h) (get_or e i 0) ≡ false) → StopsAs p e (Some i)
     breaks f J s =
         let z : stop_from J (spot x h) (drop i e) ≡ 0 =
         ap (stop_from J (spot x h)) (drop-cons e i 0 t) ∙ stop-here J (spot x h) (get_or e i 0) (drop (suc i) e) (f J s) in
-        stopped J e i (omega (arith, (w.onward J s).stop, z)) t
+        ap found (stopped J e i (omega (arith, (w.onward J s).stop, z)) t)
 
-    pub not_step : p.k ≤ l → StopsAs p e (At i)
-    not_step o = breaks (λ J s. kept-none s x h (get_or e i 0) l q o)
+    pub not_step : p.k ≤ letter_of p.lettered p.k (get_or e i 0) → StopsAs p e (Some i)
+    not_step o = breaks (λ J s. kept-none s x h (get_or e i 0) (letter_of p.lettered p.k (get_or e i 0)) refl o)
 
-    pub beyond : l < p.k → {x' : ℕ} → x' ≡ right p x l → p.n < x' → StopsAs p e (At i)
-    beyond o ex d = breaks (λ J s. kept-beyond s x h (get_or e i 0) l q o (omega arith))
+  module _ (t : i < length e) {l : ℕ} (q : l ≡ letter_of p.lettered p.k (get_or e i 0)) where
+    pub beyond : l < p.k → {x' : ℕ} → x' ≡ right p x l → p.n < x' → StopsAs p e (Some i)
+    beyond o ex d = breaks t (λ J s. kept-beyond s x h (get_or e i 0) l q o (omega arith))
 
     module _ (o : l < p.k) {x' h' : ℕ} (ex : x' ≡ right p x l) (eh : h' ≡ above p h l) where
-      kept : (J : Job) → PacesOf p J → x' ≤ p.n → keeps J (spot x h) (get_or e i 0) ≡ within p.lettered p.square p.fenced p.m x' h'
+      kept : (J : Job) → PacesOf p J → x' ≤ p.n → keeps J (spot x h) (get_or e i 0) ≡ within p x' h'
       kept J s d = rw (ex, eh) (kept_on s x h (get_or e i 0) l q o (omega arith))
 
-      pub out : x' ≤ p.n → {r : Bool} → r ≡ within p.lettered p.square p.fenced p.m x' h' → r ≡ false → StopsAs p e (At i)
-      out d f v = breaks (λ J s. kept J s d ∙ sym f ∙ v)
+      pub out : x' ≤ p.n → {r : Bool} → r ≡ within p x' h' → r ≡ false → StopsAs p e (Some i)
+      out d f v = breaks t (λ J s. kept J s d ∙ sym f ∙ v)
 
-      low-enough : within p.lettered p.square p.fenced p.m x' h' ≡ true → h' ≤ highest p x'
+      low-enough : within p x' h' ≡ true → h' ≤ highest p x'
       low-enough v = go p.lettered refl v w.h_most
         where
-          go : (r : Bool) → p.lettered ≡ r → within r p.square p.fenced p.m x' h' ≡ true → h ≤ pick r (3 * x + p.m) (128 + 6 * x) → h' ≤ pick r (3 * x' + p.m) (128 + 6 * x')
+          go : (r : Bool) → p.lettered ≡ r → within_by r p.square p.fenced p.m x' h' ≡ true → h ≤ pick r (3 * x + p.m) (128 + 6 * x) → h' ≤ pick r (3 * x' + p.m) (128 + 6 * x')
           go true r v b = leb→le h' (3 * x' + p.m) (and_right (pick p.square (leb h' (4 * x' + 128)) true) (leb h' (3 * x' + p.m)) (holds v))
           go false r v b = omega (arith, w.paced.paces.strides.a_least r l o, w.paced.paces.strides.b_most l o)
 
-      pub stepping_more : x' ≤ p.n → {r : Bool} → r ≡ within p.lettered p.square p.fenced p.m x' h' → r ≡ true → Stepping p e x' h' (i + 1)
+      pub stepping_more : x' ≤ p.n → {r : Bool} → r ≡ within p x' h' → r ≡ true → Stepping p e x' h' (i + 1)
       unfolding reached
       stepping_more d f v = record {
         paced = w.paced;
@@ -144,20 +134,19 @@ module _ {p : Paces} {e : List ℕ} {x h i : ℕ} (w : Stepping p e x h i) where
               }
 
   module _ (t : length e ≤ i) where
-    at-end : (b : Bool) → eqb x p.n && eqb h (p.m + 3 * p.n) ≡ b → (J : Job) → PacesOf p J → only_if (not b) i ≡ place_of J e
+    at-end : (b : Bool) → eqb x p.n && eqb h (p.m + 3 * p.n) ≡ b → (J : Job) → PacesOf p J → found (only_if (not b) (length e)) ≡ found (place_of J e)
     unfolding reached
     at-end b v J s =
         let f : drop i e ≡ [] = drop_of_length-le e {i = i} t in
         let z : stop_from J (spot x h) (drop i e) ≡ 0 = ap (stop_from J (spot x h)) f ∙ stop-end J (spot x h) in
         let r : reached J (start_of J) e ≡ spot x h = (w.onward J s).at ∙ ap (reached J (spot x h)) f in
-        ended J e i (omega (arith, (w.onward J s).stop, z)) (omega (arith, w.passed)) b
-        (ap (λ (y : Point). same y (end_of J)) r ∙ spot-end s x h ∙ v)
+        ap found (ended J e (omega (arith, (w.onward J s).stop, z, w.passed)) b (ap (λ (y : Point). same y (end_of J)) r ∙ spot-end s x h ∙ v))
 
-    pub not_there : x < p.n → StopsAs p e (At i)
+    pub not_there : x < p.n → StopsAs p e (Some (length e))
     not_there o = at-end false (ap (λ (b : Bool). b && eqb h (p.m + 3 * p.n)) (ne_eqb x p.n (λ q. omega arith)))
 
-    pub not_level : (h ≡ p.m + 3 * p.n → ⊥) → StopsAs p e (At i)
+    pub not_level : (h ≡ p.m + 3 * p.n → ⊥) → StopsAs p e (Some (length e))
     not_level o = at-end false (ap (λ (b : Bool). eqb x p.n && b) (ne_eqb h (p.m + 3 * p.n) o) ∙ and-false (eqb x p.n))
 
-    pub arrived : p.n ≤ x → h ≡ p.m + 3 * p.n → StopsAs p e Never
+    pub arrived : p.n ≤ x → h ≡ p.m + 3 * p.n → StopsAs p e None
     arrived o u = at-end true (ap₂ ◌&&◌ (eq-eqb x p.n (omega (arith, w.x_most))) (eq-eqb h (p.m + 3 * p.n) u))

@@ -3,17 +3,16 @@
 --
 --   WalkMeets       whether a string is an edge, or where it goes wrong
 --   WalkAllMeets    the same of the first of several that is none
-use Rattle.std.specs.Prelude.{◌≡◌, List, ℕ}
+use Rattle.std.specs.Prelude.{◌≡◌, List, ℕ, Option, Result}
 use Rattle.rules.specs.Blocks.{job_answer}
+use Rattle.job.specs.declared.Refusal.{Refusal}
 use Rattle.lines.specs.Lines.{cut_from}
-use Rattle.walks.specs.Walks.{walked_says, walk_of, checked_says, check_of}
-use Rattle.walks.specs.declared.Checked.{Checked}
-use Rattle.walks.specs.declared.Walked.{Walked}
+use Rattle.walks.specs.Walks.{finding, walk_of, check_of}
 
 -- "Start at (0,0). Each byte is a step of the job …; the last point is the end."
-abbrev pub WalkMeets : List ℕ → List ℕ → Walked → Type 0
-WalkMeets block edge r = walked_says r ≡ walk_of (job_answer block) edge
+abbrev pub WalkMeets : List ℕ → List ℕ → Result (Option ℕ) Refusal → Type 0
+WalkMeets block edge r = r ≡ finding (walk_of (job_answer block) edge)
 
 -- the same of each, "from index 0"
-abbrev pub WalkAllMeets : List ℕ → List ℕ → ℕ → List ℕ → Checked → Type 0
-WalkAllMeets block bytes from ends r = checked_says r ≡ check_of (job_answer block) (cut_from from ends bytes)
+abbrev pub WalkAllMeets : List ℕ → List ℕ → ℕ → List ℕ → Result (Option (ℕ × ℕ)) Refusal → Type 0
+WalkAllMeets block bytes from ends r = r ≡ finding (check_of (job_answer block) (cut_from from ends bytes))

@@ -1,4 +1,5 @@
 // Packs.
+// kept: two as in pack_examples: a library for them would have three times their lines, in contracts, relations and what settles them.
 
 // Motzkin's edges DDD and DEN to (3,3).
 pub(crate) fn motzkin() -> [u8; 38] {

@@ -4,10 +4,7 @@ use crate::say;
 use std::io;
 
 fn lists(rt: &impl Print) -> io::Result<()> {
-    say::text(
-        rt,
-        b"the pack of DDD and DEN numbered, to lists of 2, 4, 1 and 0\n",
-    )?;
+    println!(rt; "the pack of DDD and DEN numbered, to lists of 2, 4, 1 and 0")?;
     say::numbers(rt, &motzkin(), &mut [9, 9])?;
     say::numbers(rt, &motzkin(), &mut [9, 9, 9, 9])?;
     say::numbers(rt, &motzkin(), &mut [9])?;
@@ -17,10 +14,7 @@ fn lists(rt: &impl Print) -> io::Result<()> {
 // "the first such index and no entry is written": the second edge made DEE, the first DDE; a list that is too short is refused 5 too.
 fn faults(rt: &impl Print) -> io::Result<()> {
     let mut p = motzkin();
-    say::text(
-        rt,
-        b"its second edge bad, both, and the first alone; to a list of 1 too\n",
-    )?;
+    println!(rt; "its second edge bad, both, and the first alone; to a list of 1 too")?;
     p[37] = b'E';
     say::numbers(rt, &p, &mut [9, 9])?;
     say::numbers(rt, &p, &mut [9])?;
@@ -33,7 +27,7 @@ fn faults(rt: &impl Print) -> io::Result<()> {
 // The pack's mark and its family; its family; its ranges.
 fn refusals(rt: &impl Print) -> io::Result<()> {
     let mut p = motzkin();
-    say::text(rt, b"refused 8, 1, 2, 4, 8\n")?;
+    println!(rt; "refused 8, 1, 2, 4, 8")?;
     p[3] = b'2';
     p[4] = 9;
     say::numbers(rt, &p, &mut [9, 9])?;
@@ -57,10 +51,7 @@ fn more_refusals(rt: &impl Print) -> io::Result<()> {
 
 // Two empty edges, and packs without edges: of (1,1), and of Motzkin 46, whose count is too large.
 fn few(rt: &impl Print) -> io::Result<()> {
-    say::text(
-        rt,
-        b"empty edges, no edges, and no edges of a job that is refused 4\n",
-    )?;
+    println!(rt; "empty edges, no edges, and no edges of a job that is refused 4")?;
     say::numbers(rt, &empty_edges(), &mut [9, 9, 9])?;
     say::numbers(rt, &bare(1, 1), &mut [])?;
     say::numbers(rt, &bare(1, 1), &mut [9])?;

@@ -1,6 +1,5 @@
 -- `calls::build_all` meets its contract: the crate that has the family answers, or none has it. Assumes nothing.
 use mathlib.Core.Path.{◌≡◌, sym, ◌∙◌}
-use borrow.Author.Tests.{not-true, not-false}
 use Rattle.calls.proofs.Routes.{taken-lines, passed_lines, lines-over, lines-short-over, none-lines-over}
 use Rattle.calls.proofs.build_all.Goals as goal
 use Rattle.calls.proofs.build_all.Goals.{In_default, In_default-build_all, In_default-build_all-2}
@@ -30,18 +29,18 @@ same-grid c =
     let passed = passed_lines c.build_all-3.ensures c.in_default-build_all-2.is in
     (passed.1 ∙ (same-arch (goal.at.In_default-build_all-2 c).In_default-build_all).0, passed.2 ∙ (same-arch (goal.at.In_default-build_all-2 c).In_default-build_all).1)
 
-pub returns-in-Mine : goal.returns-in-Mine
-returns-in-Mine c = taken-lines c.build_all.ensures _ c.in-Mine.is
+pub returns-in-Some : goal.returns-in-Some
+returns-in-Some c = taken-lines c.build_all.ensures _ c.in-Some.is
 
-pub returns-in-Mine-build_all : goal.returns-in-Mine-build_all
-returns-in-Mine-build_all c =
-    lines-over _ _ _ (same_rows (goal.at.returns-in-Mine-build_all c).In_default).0 (same_rows (goal.at.returns-in-Mine-build_all c).In_default).1
-    (taken-lines c.build_all-2.ensures _ c.in-Mine-build_all.is)
+pub returns-in-Some-build_all : goal.returns-in-Some-build_all
+returns-in-Some-build_all c =
+    lines-over _ _ _ (same_rows (goal.at.returns-in-Some-build_all c).In_default).0 (same_rows (goal.at.returns-in-Some-build_all c).In_default).1
+    (taken-lines c.build_all-2.ensures _ c.in-Some-build_all.is)
 
-pub returns-in-Mine-build_all-2 : goal.returns-in-Mine-build_all-2
-returns-in-Mine-build_all-2 c =
-    lines-over _ _ _ (same-arch (goal.at.returns-in-Mine-build_all-2 c).In_default-build_all).0 (same-arch (goal.at.returns-in-Mine-build_all-2 c).In_default-build_all).1
-    (taken-lines c.build_all-3.ensures _ c.in-Mine-build_all-2.is)
+pub returns-in-Some-build_all-2 : goal.returns-in-Some-build_all-2
+returns-in-Some-build_all-2 c =
+    lines-over _ _ _ (same-arch (goal.at.returns-in-Some-build_all-2 c).In_default-build_all).0 (same-arch (goal.at.returns-in-Some-build_all-2 c).In_default-build_all).1
+    (taken-lines c.build_all-3.ensures _ c.in-Some-build_all-2.is)
 
 pub returns-then-not-has_room : goal.returns-then-not-has_room
 returns-then-not-has_room c =

@@ -4,20 +4,20 @@ use Rattle.rules.specs.Answers.{count_answer}
 use Rattle.calls.proofs.Routes.{taken-count, passed-count, none-counts}
 use Rattle.calls.proofs.count.Goals as goal
 
-pub returns-in-Mine : goal.returns-in-Mine
-returns-in-Mine c =
+pub returns-in-Some : goal.returns-in-Some
+returns-in-Some c =
     let block = c.args.block.now in
-    taken-count (plain (family_of block)) (count_answer block) _ c.count.ensures _ c.in-Mine.is
+    taken-count (plain (family_of block)) (count_answer block) _ c.count.ensures _ c.in-Some.is
 
-pub returns-in-Mine-count : goal.returns-in-Mine-count
-returns-in-Mine-count c =
+pub returns-in-Some-count : goal.returns-in-Some-count
+returns-in-Some-count c =
     let block = c.args.block.now in
-    taken-count (square (family_of block)) (count_answer block) _ c.count-2.ensures _ c.in-Mine-count.is
+    taken-count (square (family_of block)) (count_answer block) _ c.count-2.ensures _ c.in-Some-count.is
 
-pub returns-in-Mine-count-2 : goal.returns-in-Mine-count-2
-returns-in-Mine-count-2 c =
+pub returns-in-Some-count-2 : goal.returns-in-Some-count-2
+returns-in-Some-count-2 c =
     let block = c.args.block.now in
-    taken-count (paired (family_of block)) (count_answer block) _ c.count-3.ensures _ c.in-Mine-count-2.is
+    taken-count (paired (family_of block)) (count_answer block) _ c.count-3.ensures _ c.in-Some-count-2.is
 
 pub returns : goal.returns
 returns c =

@@ -1,25 +1,29 @@
 -- `calls::number` meets its contract: the number of a list of one edge. Assumes nothing.
 use Prim.Native.Nat.{ℕ, ◌≤◌}
+use mathlib.Core.Path.{◌≡◌, ◌∙◌}
 use native.Mathlib.Omega.{arith}
 use lib.ListN.{length, replicate, length-replicate}
-use Rattle.calls.proofs.Ones.{one_told, one-untold, one-room}
+use Rattle.std.proofs.Common.{rules, Err, ne_eqb}
+use Rattle.lines.specs.Lines.{refusal_for}
+use Rattle.calls.proofs.Ones.{one_told, one-untold}
 use Rattle.calls.proofs.number.Goals as goal
 
 -- the array for the number
 place : 1 ≤ length (replicate {A = ℕ} 1 0)
 place = omega (arith, length-replicate {A = ℕ} 1 0)
 
-pub returns-in-Upto : goal.returns-in-Upto
-returns-in-Upto c =
+pub returns-in_err-n : goal.returns-in_err-n
+returns-in_err-n c =
     let args = c.args in
-    one_told args.block.now args.edge.now (replicate 1 0) _ place c.number_all.ensures c.in-Upto.is c.told.ensures
+    let h : c.from_residual.result ≡ Err (refusal_for c.in_err-n.field-0.0) = search rules in
+    h ∙ one-untold args.block.now args.edge.now (replicate 1 0) _ place c.number_all.ensures c.in_err-n.was
 
-pub returns-in-Refused : goal.returns-in-Refused
-returns-in-Refused c =
+pub returns-then-n-one : goal.returns-then-n-one
+returns-then-n-one c =
     let args = c.args in
-    one-untold args.block.now args.edge.now (replicate 1 0) _ place c.number_all.ensures c.in-Refused.is
+    rw c.if-n-one.true at (one_told args.block.now args.edge.now (replicate 1 0) _ place c.number_all.ensures c.in_ok-n.was)
 
-pub returns-in-NoRoom : goal.returns-in-NoRoom
-returns-in-NoRoom c =
+pub returns : goal.returns
+returns c =
     let args = c.args in
-    absurd (one-room args.block.now args.edge.now (replicate 1 0) _ place c.number_all.ensures c.in-NoRoom.is)
+    rw (ne_eqb c.in_ok-n.n 1 c.if-n-one.false) at (one_told args.block.now args.edge.now (replicate 1 0) _ place c.number_all.ensures c.in_ok-n.was)

@@ -17,14 +17,14 @@ same-arch c = (passed-ranks c.number_all-2.ensures c.in_default-number_all.is).1
 same-grid : (c : In_default-number_all-2) → c.number_all-3.new.numbers ≡ c.args.numbers.now
 same-grid c = (passed-ranks c.number_all-3.ensures c.in_default-number_all-2.is).1 ∙ same-arch (goal.at.In_default-number_all-2 c).In_default-number_all
 
-pub returns-in-Mine : goal.returns-in-Mine
-returns-in-Mine c = taken-ranks c.number_all.ensures _ c.in-Mine.is
+pub returns-in-Some : goal.returns-in-Some
+returns-in-Some c = taken-ranks c.number_all.ensures _ c.in-Some.is
 
-pub returns-in-Mine-number_all : goal.returns-in-Mine-number_all
-returns-in-Mine-number_all c = ranks-over _ _ _ (same_rows (goal.at.returns-in-Mine-number_all c).In_default) (taken-ranks c.number_all-2.ensures _ c.in-Mine-number_all.is)
+pub returns-in-Some-number_all : goal.returns-in-Some-number_all
+returns-in-Some-number_all c = ranks-over _ _ _ (same_rows (goal.at.returns-in-Some-number_all c).In_default) (taken-ranks c.number_all-2.ensures _ c.in-Some-number_all.is)
 
-pub returns-in-Mine-number_all-2 : goal.returns-in-Mine-number_all-2
-returns-in-Mine-number_all-2 c = ranks-over _ _ _ (same-arch (goal.at.returns-in-Mine-number_all-2 c).In_default-number_all) (taken-ranks c.number_all-3.ensures _ c.in-Mine-number_all-2.is)
+pub returns-in-Some-number_all-2 : goal.returns-in-Some-number_all-2
+returns-in-Some-number_all-2 c = ranks-over _ _ _ (same-arch (goal.at.returns-in-Some-number_all-2 c).In_default-number_all) (taken-ranks c.number_all-3.ensures _ c.in-Some-number_all-2.is)
 
 pub returns-then-numbers-ends : goal.returns-then-numbers-ends
 returns-then-numbers-ends c =

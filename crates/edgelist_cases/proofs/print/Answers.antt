@@ -9,11 +9,11 @@ use Rattle.listing.proofs.Longest.{never-refused}
 use Rattle.edgelist_cases.proofs.print.Goals as goal
 
 pub slice_bounds-text-end : goal.slice_bounds-text-end
-slice_bounds-text-end g c = put-fits _ _ _ _ _ c.in-Length.is c.write.ensures
+slice_bounds-text-end g c = put-fits _ _ _ _ _ c.in-Ok.is c.write.ensures
 
 pub slice_bounds-write_all-end : goal.slice_bounds-write_all-end
-slice_bounds-write_all-end g c = sym (length-take-le _ _ (put-fits _ _ _ _ _ c.in-Length.is c.write.ensures))
+slice_bounds-write_all-end g c = sym (length-take-le _ _ (put-fits _ _ _ _ _ c.in-Ok.is c.write.ensures))
 
 pub unreachable-requires : goal.unreachable-requires
 unreachable-requires g c =
-    never-refused _ (replicate 152000 0) _ _ _ (omega (arith, length-replicate {A = ℕ} 152000 0)) c.write.ensures c.in-Refused.is
+    never-refused _ (replicate 152000 0) _ _ _ (omega (arith, length-replicate {A = ℕ} 152000 0)) c.write.ensures c.in-Err.is

@@ -1,9 +1,9 @@
 -- `job::is_formed` meets its contract: each return by the tests that led there. Assumes nothing.
 use Rattle.std.proofs.Common.{◌≡◌, ◌+◌, ◌*◌, drop, sym, ap, ◌∙◌, arith, eq-eqb, ne_eqb, le-leb}
-use borrow.Author.Tests.{lt-leb, not-true, not-false}
+use borrow.Author.Tests.{lt-leb}
 use Rattle.howmany.specs.Choose.{pick}
 use Rattle.rules.specs.Blocks.{k_of, zeros, formed}
-use Rattle.job.proofs.Blocks.{formed-is, rest, zeros-past}
+use Rattle.job.proofs.Blocks.{each_zero, formed-is, rest, zeros-past}
 use Rattle.job.proofs.is_formed.Goals as goal
 use Rattle.job.proofs.is_formed.Goals.{After-is_paired}
 
@@ -28,7 +28,7 @@ unused-zero c =
 
 pub returns-then-not-is_paired : goal.returns-then-not-is_paired
 returns-then-not-is_paired c =
-    c.all_zero.ensures ∙ ap zeros (rest c.args.block.now 3 (omega arith)) ∙ sym (unused-zero (goal.at.returns-then-not-is_paired c).After-is_paired ∙ simp c.if-not-is_paired.true)
+    c.all_zero.ensures ∙ each_zero _ ∙ ap zeros (rest c.args.block.now 3 (omega arith)) ∙ sym (unused-zero (goal.at.returns-then-not-is_paired c).After-is_paired ∙ simp c.if-not-is_paired.true)
 
 pub returns-then-k-ge-STEPS : goal.returns-then-k-ge-STEPS
 returns-then-k-ge-STEPS c =
@@ -40,6 +40,7 @@ returns c =
     let block = c.args.block.now in
     let wide = c.wide-k in
     c.all_zero-2.ensures
+    ∙ each_zero _
     ∙ ap zeros (rest block (4 + 2 * wide.result) (omega arith))
     ∙ ap (λ n. zeros (drop (4 + 2 * n) block)) wide.ensures
     ∙ sym (unused-zero (goal.at.returns c).After-is_paired ∙ simp c.if-not-is_paired.false)

@@ -1,8 +1,8 @@
 -- `job::is_sized_directed` meets its contract: each return by the tests that led there. Assumes nothing.
-use Rattle.std.proofs.Common.{◌≡◌, ◌&&◌, leb, sym, refl, ◌∙◌, arith, le-leb}
+use Rattle.std.proofs.Common.{◌≡◌, ◌&&◌, leb, sym, refl, ap, ◌∙◌, arith, le-leb}
 use borrow.Author.Tests.{lt-leb}
 use Rattle.rules.specs.Blocks.{n_of, k_of, used, small, sized_directed}
-use Rattle.job.proofs.Blocks.{directed-is}
+use Rattle.job.proofs.Blocks.{directed-is, used_in}
 use Rattle.job.proofs.is_sized_directed.Goals as goal
 use Rattle.job.proofs.is_sized_directed.Goals.{After-raise-m, After-wide-k}
 
@@ -37,8 +37,5 @@ returns-then-k-lt1 c = sym (pairs (goal.at.returns-then-k-lt1 c).After-wide-k �
 pub returns-then-k-gt-STEPS : goal.returns-then-k-gt-STEPS
 returns-then-k-gt-STEPS c = sym (pairs (goal.at.returns-then-k-gt-STEPS c).After-wide-k ∙ simp (le-leb _ _ c.if-k-lt1.false, lt-leb _ _ c.if-k-gt-STEPS.true))
 
-pub is_small-requires : goal.is_small-requires
-is_small-requires c = record { whole = c.requires; many = sym c.wide-k.ensures; few = omega arith }
-
 pub returns : goal.returns
-returns c = c.is_small.ensures ∙ sym (pairs (goal.at.returns c).After-wide-k ∙ simp (le-leb _ _ c.if-k-lt1.false, le-leb _ _ c.if-k-gt-STEPS.false))
+returns c = c.is_small.ensures ∙ ap small (used_in c.args.block.now _ _ c.wide-k.ensures (omega arith)) ∙ sym (pairs (goal.at.returns c).After-wide-k ∙ simp (le-leb _ _ c.if-k-lt1.false, le-leb _ _ c.if-k-gt-STEPS.false))

@@ -1,14 +1,14 @@
 -- `pack::repeat` meets its contract, from that of `first_repeat`. Assumes nothing.
-use mathlib.Core.Path.{sym, ap, ◌∙◌}
-use Rattle.job.specs.Replies.{reply}
-use Rattle.pack.proofs.Reading.{read_of, repeat-refused, repeat-at}
+use mathlib.Core.Path.{ap, ◌∙◌}
+use Rattle.std.proofs.lemmas.Result.{err_from_is_err_and}
+use Rattle.rules.specs.Questions.{twice_in}
+use Rattle.pack.specs.Layout.{edges_in}
+use Rattle.pack.specs.Replies.{paired}
+use Rattle.pack.proofs.Reading.{repeat-refused, repeat_read}
 use Rattle.pack.proofs.repeat.Goals as goal
 
-pub first_repeat-requires : goal.first_repeat-requires
-first_repeat-requires c = (read_of c.args.pack.now _ c.refusal_of-refusal.ensures c.if-refusal-eq0.true).layout
-
-pub returns-then-refusal-eq0 : goal.returns-then-refusal-eq0
-returns-then-refusal-eq0 c = c.first_repeat.ensures ∙ sym (ap reply (repeat-at c.args.pack.now (read_of c.args.pack.now _ c.refusal_of-refusal.ensures c.if-refusal-eq0.true)))
+pub returns-in_err-read : goal.returns-in_err-read
+returns-in_err-read c = let p = err_from_is_err_and c.from_residual.result c.from_residual.ensures.1 in rw (p.1, p.2) (repeat-refused _ _ c.in_err-read.ensures)
 
 pub returns : goal.returns
-returns c = repeat-refused c.args.pack.now _ c.refusal_of-refusal.ensures c.if-refusal-eq0.false
+returns c = repeat_read _ c.in_ok-read.ensures.1 (c.first_repeat.ensures ∙ ap (λ p. paired (twice_in (edges_in p))) c.in_ok-read.ensures.0)

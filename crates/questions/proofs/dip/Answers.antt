@@ -1,47 +1,55 @@
 -- `questions::dip` meets its contract: by the job maker's answer, the count, the family, and the walk of the edge. Assumes nothing.
 use mathlib.Core.Path.{◌≡◌, sym, ap, ◌∙◌}
-use mathlib.Core.Bool.{true}
-use borrow.Author.Tests.{not-true, not-false}
-use Rattle.rules.specs.Blocks.{paired}
+use mathlib.Core.Bool.{Bool}
+use Rattle.std.proofs.lemmas.Result.{err_from_is_err_and}
+use Rattle.std.specs.Prelude.{Ok}
+use Rattle.rules.specs.Blocks.{family_of, paired}
 use Rattle.rules.specs.Answers.{count_answer}
-use Rattle.job.specs.Replies.{reply, count_says}
-use Rattle.job.specs.Replies.Reply.{value}
+use Rattle.job.specs.Replies.{reply}
 use Rattle.job.proofs.Standing.{Kept, kept_of, told_of_lem}
-use Rattle.questions.proofs.Dipping.{dip-told, dip-over, dip_kind, dip-stops, dip-none, dip-digits, dip-value}
+use Rattle.questions.proofs.Dipping.{dip-told, dip-over, dip_kind, dip-walked, dip-stops, dip-digits, dip-value}
 use Rattle.questions.proofs.dip.Goals as goal
-use Rattle.questions.proofs.dip.Goals.{Else-without_steps, Else-refusal-ne0, In_default}
+use Rattle.questions.proofs.dip.Goals.{In_ok-job, In_ok-count, After-is_paired-without_steps}
 
-pub returns-then-refusal-ne0 : goal.returns-then-refusal-ne0
-returns-then-refusal-ne0 c =
-    dip-told c.args.block.now c.args.edge.now (told_of_lem c.args.block.now c.of-made.result c.of-made.ensures c.if-refusal-ne0.true)
+pub returns-in_err-job : goal.returns-in_err-job
+returns-in_err-job c =
+    let told = err_from_is_err_and c.from_residual.result c.from_residual.ensures.1 in
+    rw (told.1, told.2) (dip-told _ _ (told_of_lem _ c.of.ensures c.in_err-job.was))
 
-pub returns-in-Refused : goal.returns-in-Refused
-returns-in-Refused c =
-    dip-over c.args.block.now c.args.edge.now _ (sym (ap count_says c.in-Refused.is) ∙ c.count.ensures)
+pub returns-in_err-count : goal.returns-in_err-count
+returns-in_err-count c =
+    let told = err_from_is_err_and c.from_residual-in_err-count.result c.from_residual-in_err-count.ensures.1 in
+    rw (told.1, told.2) (dip-over _ _ (sym c.in_err-count.was ∙ c.count.ensures))
 
--- the job that the block has; its count fits; it has pairs
-kept : (c : Else-refusal-ne0) → Kept c.args.block.now c.of-made.result.job
-kept c = kept_of _ c.of-made.result (λ i. (c.type_inv.block i).fits) c.of-made.ensures c.if-refusal-ne0.false
+-- the job that the block has; its count fits; whether it has pairs
+kept : (c : In_ok-job) → Kept c.args.block.now c.in_ok-job.job
+kept c = kept_of _ (λ i. (c.type_inv.block i).fits) c.of.ensures c.in_ok-job.was
 
-fits : (c : In_default) → value c.in_default.field-0 ≡ reply (count_answer c.args.block.now)
-fits c = sym (ap count_says c.in_default.is) ∙ c.count.ensures
+fits : (c : In_ok-count) → Ok c.in_ok-count.field-0 ≡ reply (count_answer c.args.block.now)
+fits c = sym c.in_ok-count.was ∙ c.count.ensures
 
-has-pairs : (c : Else-without_steps) → paired c.of-made.result.job.family ≡ true
-has-pairs c = sym c.is_paired-without_steps.ensures ∙ c.if-without_steps.false
+pairs : (c : After-is_paired-without_steps) {b : Bool} → c.is_paired-without_steps.result ≡ b → paired (family_of c.args.block.now) ≡ b
+pairs c e = sym (c.is_paired-without_steps.ensures ∙ ap paired c.family_of.ensures) ∙ e
 
 pub returns-then-without_steps : goal.returns-then-without_steps
-returns-then-without_steps c = dip_kind _ _ (kept (goal.at.returns-then-without_steps c).Else-refusal-ne0) (fits (goal.at.returns-then-without_steps c).In_default) (sym c.is_paired-without_steps.ensures ∙ c.if-without_steps.true)
+returns-then-without_steps c =
+    dip_kind _ _ (kept (goal.at.returns-then-without_steps c).In_ok-job) (fits (goal.at.returns-then-without_steps c).In_ok-count)
+    (pairs (goal.at.returns-then-without_steps c).After-is_paired-without_steps c.if-without_steps.true)
+
+pub returns-in_err-walk : goal.returns-in_err-walk
+returns-in_err-walk c = absurd (dip-walked _ _ (kept (goal.at.returns-in_err-walk c).In_ok-job) (fits (goal.at.returns-in_err-walk c).In_ok-count) c.walk.ensures c.in_err-walk.was)
 
 pub first_rise-requires : goal.first_rise-requires
-first_rise-requires c = dip-digits _ _ (kept (goal.at.first_rise-requires c).Else-refusal-ne0) (fits (goal.at.first_rise-requires c).In_default) (has-pairs (goal.at.first_rise-requires c).Else-without_steps) c.walk.result c.walk.ensures c.in-Edge.is
+first_rise-requires c =
+    dip-digits _ _ (kept (goal.at.first_rise-requires c).In_ok-job) (fits (goal.at.first_rise-requires c).In_ok-count) c.walk.ensures
+    (pairs (goal.at.first_rise-requires c).After-is_paired-without_steps c.if-without_steps.false) (c.in_ok-walk.was ∙ ap Ok c.in-None.is)
 
-pub returns-in-Edge : goal.returns-in-Edge
-returns-in-Edge c =
-    dip-value _ _ (kept (goal.at.returns-in-Edge c).Else-refusal-ne0) (fits (goal.at.returns-in-Edge c).In_default) (has-pairs (goal.at.returns-in-Edge c).Else-without_steps) c.walk.result c.walk.ensures c.in-Edge.is
-    c.first_rise.result c.first_rise.ensures
+pub returns-in-None : goal.returns-in-None
+returns-in-None c =
+    dip-value _ _ (kept (goal.at.returns-in-None c).In_ok-job) (fits (goal.at.returns-in-None c).In_ok-count) c.walk.ensures
+    (pairs (goal.at.returns-in-None c).After-is_paired-without_steps c.if-without_steps.false) (c.in_ok-walk.was ∙ ap Ok c.in-None.is) _ c.first_rise.ensures
 
-pub returns-in-Stops : goal.returns-in-Stops
-returns-in-Stops c = dip-stops _ _ (kept (goal.at.returns-in-Stops c).Else-refusal-ne0) (fits (goal.at.returns-in-Stops c).In_default) (has-pairs (goal.at.returns-in-Stops c).Else-without_steps) c.walk.result c.walk.ensures c.in-Stops.is
-
-pub returns-in-NoJob : goal.returns-in-NoJob
-returns-in-NoJob c = absurd (dip-none _ _ (kept (goal.at.returns-in-NoJob c).Else-refusal-ne0) (fits (goal.at.returns-in-NoJob c).In_default) (has-pairs (goal.at.returns-in-NoJob c).Else-without_steps) c.walk.result c.walk.ensures c.in-NoJob.is)
+pub returns-in-Some : goal.returns-in-Some
+returns-in-Some c =
+    dip-stops _ _ (kept (goal.at.returns-in-Some c).In_ok-job) (fits (goal.at.returns-in-Some c).In_ok-count) c.walk.ensures
+    (pairs (goal.at.returns-in-Some c).After-is_paired-without_steps c.if-without_steps.false) (c.in_ok-walk.was ∙ ap Ok c.in-Some.is)

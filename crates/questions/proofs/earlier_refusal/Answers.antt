@@ -1,27 +1,7 @@
 -- `questions::earlier_refusal` meets its contract: the comparison's refusal, or 0. Assumes nothing.
-use mathlib.Core.Path.{◌≡◌, sym, ap, ◌∙◌}
-use mathlib.Core.Bool.{Bool}
-use Rattle.rules.specs.Refusals.{Answer}
-use Rattle.rules.specs.Questions.{second_answer}
-use Rattle.job.specs.Replies.{reply}
-use Rattle.questions.specs.declared.Which.{Which}
-use Rattle.questions.specs.Replies.{which_says}
-use Rattle.questions.proofs.Comparing.{refusal-none, refusal-some}
+use mathlib.Core.Path.{◌∙◌}
+use Rattle.questions.proofs.Comparing.{refusal-some}
 use Rattle.questions.proofs.earlier_refusal.Goals as goal
-use Rattle.questions.proofs.earlier_refusal.Goals.{After-compare}
 
--- what is asked, and what the comparison says of it
-abbrev asked : After-compare → Answer Bool
-asked c = second_answer c.args.block.now c.args.a.now c.args.b.now
-
-says : (c : After-compare) {w : Which} → c.compare.result ≡ w → which_says w ≡ reply (asked c)
-says c e = sym (ap which_says e) ∙ c.compare.ensures
-
-pub returns-in-First : goal.returns-in-First
-returns-in-First c = refusal-none (asked (goal.at.returns-in-First c).After-compare) _ (says (goal.at.returns-in-First c).After-compare c.in-First.is)
-
-pub returns-in-Second : goal.returns-in-Second
-returns-in-Second c = refusal-none (asked (goal.at.returns-in-Second c).After-compare) _ (says (goal.at.returns-in-Second c).After-compare c.in-Second.is)
-
-pub returns-in-Refused : goal.returns-in-Refused
-returns-in-Refused c = refusal-some (asked (goal.at.returns-in-Refused c).After-compare) _ (says (goal.at.returns-in-Refused c).After-compare c.in-Refused.is)
+pub returns-in-Err : goal.returns-in-Err
+returns-in-Err c = c.from.ensures ∙ refusal-some _ c.in-Err.ensures

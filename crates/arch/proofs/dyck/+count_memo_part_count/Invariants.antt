@@ -14,6 +14,3 @@ decreases-part_count l = 2 * l.n + 1
 abbrev pub invariant-count_memo-loop-i : goal.invariant-count_memo-loop-i
 invariant-count_memo-loop-i l =
     (l.i ≤ l.half) × Good l.memo × Kept l.initial.memo l.memo × (l.sum + part l.n l.i ≡ part l.n l.half) × (l.i < l.half → Filled (l.n - l.i) l.memo)
-
-abbrev pub decreases-count_memo-loop-i : goal.decreases-count_memo-loop-i
-decreases-count_memo-loop-i l = l.i

@@ -11,7 +11,7 @@ abbrev pub decreases-read_path : goal.decreases-read_path
 decreases-read_path l = 2 * (length l.s.now - l.from)
 
 abbrev pub invariant-read_path-loop-next : goal.invariant-read_path-loop-next
-invariant-read_path-loop-next l = Begun l.v l.room l.s l.from l.next l.size l.number
+invariant-read_path-loop-next l = Begun l.parts.v l.room l.s l.from l.next l.size l.number
 
 abbrev pub decreases-read_path-loop-next : goal.decreases-read_path-loop-next
 decreases-read_path-loop-next l = length l.s - l.next

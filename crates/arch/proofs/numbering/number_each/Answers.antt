@@ -1,43 +1,36 @@
 -- `arch::numbering::number_each` meets its contract: an edge more at each turn. Assumes nothing.
 use mathlib.Core.Path.{◌≡◌}
-use lib.ListN.{get_or}
+use native.Mathlib.Omega.{arith}
+use lib.ListN.{get_or, length}
 use Rattle.rules.specs.Valid.{is_edge}
 use Rattle.rules.specs.Numbers.{number_of}
 use Rattle.rules.specs.Packs.{part_of}
-use Rattle.lines.specs.declared.Rank.{Rank}
-use Rattle.lines.proofs.Ranking.{ranking_none, ranking_room, ranking_next, ranking_stop, ranking_all, part-rank}
+use Rattle.std.specs.Prelude.{ℕ, Option}
+use Rattle.lines.proofs.Ranking.{ranking_next, ranking_stop, ranking_all, part-rank}
 use Rattle.arch.specs.Answers.{arch_job, RankOf}
 use Rattle.arch.proofs.Calls.{numbers_of}
 use Rattle.arch.proofs.numbering.number_each.Goals as goal
 use Rattle.arch.proofs.numbering.number_each.Goals.{After-rank}
 
 -- what is read of the next edge
-read : (c : After-rank) {q : Rank} → c.rank.result ≡ q →
+read : (c : After-rank) {q : Option ℕ} → c.rank.result ≡ q →
     let args = c.args in
     let loop = c.loop-i in
-    RankOf (arch_job args.d args.v args.n) (part_of args.bytes.now loop.at (get_or args.ends.now loop.i 0)) q
+    RankOf (arch_job args.parts.now.d args.parts.now.v args.parts.now.n) (part_of args.bytes.now loop.at (get_or args.ends.now loop.i 0)) q
 read c e =
     let args = c.args in
-    part-rank (is_edge (arch_job args.d args.v args.n)) (number_of (arch_job args.d args.v args.n)) _ _ _ _ c.part.ensures c.rank.ensures e
-
-pub loop-i-init : goal.loop-i-init
-loop-i-init c = ranking_none _ _ _ _ _ _ c.requires.1
-
-pub rank-requires : goal.rank-requires
-rank-requires c = c.requires.0
+    part-rank (is_edge (arch_job args.parts.now.d args.parts.now.v args.parts.now.n)) (number_of (arch_job args.parts.now.d args.parts.now.v args.parts.now.n)) _ _ _ _ c.part.ensures c.rank.ensures e
 
 pub returns-in_default : goal.returns-in_default
 returns-in_default c =
-    numbers_of c.requires.0 _ _ _ _ (ranking_stop _ _ _ _ _ _ _ _ _ c.loop-i.invariant c.loop-i-test.true (read (goal.at.returns-in_default c).After-rank c.in_default.is))
-
-pub bounds-numbers-i : goal.bounds-numbers-i
-bounds-numbers-i c =
-    ranking_room _ _ _ _ _ _ _ _ _ c.loop-i.invariant c.loop-i-test.true
+    numbers_of c.args.parts.now.full _ _ _ _ (ranking_stop _ _ _ _ _ _ _ _ _ c.loop-i.invariant c.loop-i-test.true (read (goal.at.returns-in_default c).After-rank c.in_default.is))
 
 pub loop-i-preserved : goal.loop-i-preserved
 loop-i-preserved c =
-    let w = read (goal.at.loop-i-preserved c).After-rank c.in-At.is in
+    let w = read (goal.at.loop-i-preserved c).After-rank c.in-Some.is in
     ranking_next _ _ _ _ _ _ _ _ _ c.loop-i.invariant _ c.loop-i-test.true w.0 w.1
 
 pub returns : goal.returns
-returns c = numbers_of c.requires.0 _ _ _ _ (ranking_all _ _ _ _ _ _ _ _ _ c.loop-i.invariant c.loop-i-test.false)
+returns c =
+    let e : c.loop-i.i ≡ length c.args.ends.now = omega arith in
+    rw e at (numbers_of c.args.parts.now.full _ _ _ _ (ranking_all _ _ _ _ _ _ _ _ _ c.loop-i.invariant c.loop-i-test.false))

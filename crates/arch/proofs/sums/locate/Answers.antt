@@ -4,7 +4,7 @@ use Prim.Native.Nat.{◌*◌}
 use native.Mathlib.Omega.{arith}
 use lib.ListN.{get_or}
 use Rattle.arches.specs.Counts.{count}
-use Rattle.arch.proofs.Spots.{between_start, falls-left, falls-right, closer, pair_is, pair_fits}
+use Rattle.arch.proofs.Spots.{between_start, falls-right, closer, pair_is, pair_fits}
 use Rattle.arch.proofs.sums.locate.Goals as goal
 use Rattle.arch.proofs.sums.locate.Goals.{At-loop-low}
 
@@ -17,36 +17,12 @@ product c = pair_is c.args.m c.loop-low.l c.loop-low.h c.requires.0 c.requires.1
 pub loop-low-init : goal.loop-low-init
 loop-low-init c = between_start c.args.d c.args.v c.args.m c.args.r c.args.b c.requires.2
 
-pub offset_bounds-table-l : goal.offset_bounds-table-l
-offset_bounds-table-l c = omega arith
-
-pub bounds-table-l : goal.bounds-table-l
-bounds-table-l c = omega arith
-
-pub offset_bounds-table-h : goal.offset_bounds-table-h
-offset_bounds-table-h c = omega arith
-
-pub bounds-table-h : goal.bounds-table-h
-bounds-table-h c = omega arith
-
 pub overflow_mul-p : goal.overflow_mul-p
 overflow_mul-p c =
     omega (arith, pair_fits c.args.m c.loop-low.l c.loop-low.h c.requires.0 c.requires.1 c.loop-low.invariant.apart)
 
-pub returns-then-low-p : goal.returns-then-low-p
-returns-then-low-p c = falls-left c.loop-low.invariant (product (goal.at.returns-then-low-p c).At-loop-low) c.if-low-p.true
-
-pub overflow_sub-result : goal.overflow_sub-result
-overflow_sub-result c = omega arith
-
-pub overflow_sub-result-then-high-p : goal.overflow_sub-result-then-high-p
-overflow_sub-result-then-high-p c = omega arith
-
 pub returns-then-high-p : goal.returns-then-high-p
 returns-then-high-p c = falls-right c.loop-low.invariant (product (goal.at.returns-then-high-p c).At-loop-low) c.if-high-p.true
-
-pub overflow_add-l : goal.overflow_add-l
-overflow_add-l c = omega arith
 
 pub overflow_sub-h : goal.overflow_sub-h
 overflow_sub-h c = omega (arith, closer c.loop-low.invariant (product (goal.at.overflow_sub-h c).At-loop-low) c.if-low-p.false c.if-high-p.false)

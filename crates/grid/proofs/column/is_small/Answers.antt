@@ -1,22 +1,10 @@
 -- `grid::column::is_small` meets its contract: the sum is 0 only if no cell so far has a bit above 2^61. Assumes nothing.
 use Prim.Native.Nat.{◌+◌, ◌≤◌}
 use native.Mathlib.Omega.{arith}
-use native.Mathlib.Nat.{not-suc-le-zero}
 use lib.ListN.{get_or}
 use borrow.Author.Count.{below_more}
 use borrow.Author.Tests.{eqb-true}
-use Rattle.grid.proofs.Sums.{high_le, above-fits}
 use Rattle.grid.proofs.column.is_small.Goals as goal
-
-pub loop-i-init : goal.loop-i-init
-loop-i-init c = (omega arith, omega arith, λ e k l. absurd (not-suc-le-zero l))
-
-pub overflow_add-above-in-loop-i : goal.overflow_add-above-in-loop-i
-overflow_add-above-in-loop-i c =
-    record {
-      fits = above-fits _ _ c.loop-i.i c.loop-i.invariant.1
-          (high_le _ (omega (arith, c.type_inv.val (c.args.d + c.loop-i.i)))) (omega arith);
-    }
 
 pub loop-i-preserved : goal.loop-i-preserved
 loop-i-preserved c =

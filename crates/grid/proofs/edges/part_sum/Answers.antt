@@ -7,13 +7,13 @@ use Rattle.grid.proofs.edges.part_sum.Goals as goal
 
 pub loop-i-init : goal.loop-i-init
 unfolding sum
-loop-i-init c = (omega arith, refl)
+loop-i-init c = refl
 
 pub overflow_add-acc : goal.overflow_add-acc
-overflow_add-acc c = record { fits = (read_more c.requires _ c.back-s.ensures c.loop-i-test.true c.loop-i.invariant.1).1 }
+overflow_add-acc c = record { fits = (read_more c.requires _ c.back-s.ensures c.loop-i-test.true c.loop-i.invariant).1 }
 
 pub loop-i-preserved : goal.loop-i-preserved
-loop-i-preserved c = (omega arith, (read_more c.requires _ c.back-s.ensures c.loop-i-test.true c.loop-i.invariant.1).0)
+loop-i-preserved c = (read_more c.requires _ c.back-s.ensures c.loop-i-test.true c.loop-i.invariant).0
 
 pub returns : goal.returns
-returns c = c.loop-i.invariant.1 ∙ ap (sum _) (omega arith)
+returns c = c.loop-i.invariant ∙ ap (sum _) (omega arith)

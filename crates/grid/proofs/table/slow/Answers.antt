@@ -1,7 +1,7 @@
 -- `grid::table::slow` meets its contract: height by height. Assumes nothing.
 use mathlib.Core.Path.{refl}
 use native.Mathlib.Omega.{arith}
-use Rattle.grid.proofs.Sums.{more-le, fewer-left, all_of}
+use Rattle.grid.proofs.Sums.{all_of}
 use Rattle.tables.proofs.Phases.{place-sum, slow_placed, none_yet, put_in, parts-of, part-more, slow_done}
 use Rattle.grid.proofs.table.slow.Goals as goal
 
@@ -18,28 +18,22 @@ pub overflow_mul-column : goal.overflow_mul-column
 overflow_mul-column c = record { fits = (slow_placed c.requires _ c.requires.lt).column }
 
 pub loop-y-init : goal.loop-y-init
-loop-y-init c = (omega arith, omega (arith, c.requires.lt), refl, refl, c.requires, none_yet c.requires)
+loop-y-init c = (refl, refl, c.requires, none_yet c.requires)
 
 pub overflow_add-at : goal.overflow_add-at
-overflow_add-at c = record { fits = (slow_placed c.loop-y.invariant.4 _ c.loop-y-test.true).base }
+overflow_add-at c = record { fits = (slow_placed c.loop-y.invariant.2 _ c.loop-y-test.true).base }
 
 pub overflow_add-at-in-loop-y : goal.overflow_add-at-in-loop-y
-overflow_add-at-in-loop-y c = record { fits = (slow_placed c.loop-y.invariant.4 _ c.loop-y-test.true).cell }
+overflow_add-at-in-loop-y c = record { fits = (slow_placed c.loop-y.invariant.2 _ c.loop-y-test.true).cell }
 
 pub total-r-requires : goal.total-r-requires
-total-r-requires c = parts-of c.loop-y.invariant.4 c.loop-y.invariant.5 c.loop-y.invariant.0 c.loop-y-test.true _ (place-sum _ _ _ _) c.loop-y.invariant.2 c.loop-y.invariant.3
+total-r-requires c = parts-of c.loop-y.invariant.2 c.loop-y.invariant.3 (omega arith) c.loop-y-test.true _ (place-sum _ _ _ _) c.loop-y.invariant.0 c.loop-y.invariant.1
 
 pub put-requires : goal.put-requires
-put-requires c = put_in c.loop-y.invariant.4 c.loop-y.invariant.5 c.loop-y.invariant.0 c.loop-y-test.true c.loop-y.invariant.2 c.loop-y.invariant.3
-
-pub overflow_add-y : goal.overflow_add-y
-overflow_add-y c = record { fits = (slow_placed c.loop-y.invariant.4 _ c.loop-y-test.true).above }
-
-pub loop-y-smaller : goal.loop-y-smaller
-loop-y-smaller c = fewer-left _ _ c.loop-y-test.true
+put-requires c = put_in c.loop-y.invariant.2 c.loop-y.invariant.3 (omega arith) c.loop-y-test.true c.loop-y.invariant.0 c.loop-y.invariant.1
 
 pub loop-y-preserved : goal.loop-y-preserved
-loop-y-preserved c = (omega arith, more-le _ _ c.loop-y-test.true, omega arith, omega arith, c.loop-y.invariant.4, part-more c.loop-y.invariant.4 c.loop-y.invariant.5 c.loop-y.invariant.0 c.loop-y-test.true _ _ _ _ (place-sum _ _ _ _) c.put.ensures c.total-r.ensures)
+loop-y-preserved c = (omega arith, omega arith, c.loop-y.invariant.2, part-more c.loop-y.invariant.2 c.loop-y.invariant.3 (omega arith) c.loop-y-test.true _ _ _ _ (place-sum _ _ _ _) c.put.ensures c.total-r.ensures)
 
 pub returns : goal.returns
-returns c = slow_done c.loop-y.invariant.4 c.loop-y.invariant.5 (all_of _ _ c.loop-y.invariant.1 c.loop-y-test.false)
+returns c = slow_done c.loop-y.invariant.2 c.loop-y.invariant.3 (all_of _ _ (omega arith) c.loop-y-test.false)

@@ -5,17 +5,17 @@ use Rattle.grid.proofs.Turns.{first2, first4, first8, step_fits, step-empty, run
 use borrow.Author.Rules.{rules}
 use Rattle.grid.proofs.table.step.Goals as goal
 
-pub offset_bounds-starts-x : goal.offset_bounds-starts-x
-offset_bounds-starts-x c = record { fits = (step_fits c.requires.unflagged c.requires.spans_for).byte }
+pub offset_bounds-ranges-x : goal.offset_bounds-ranges-x
+offset_bounds-ranges-x c = record { fits = (step_fits c.requires.unflagged c.requires.spans_for).byte }
 
-pub bounds-starts-x : goal.bounds-starts-x
-bounds-starts-x c = (step_fits c.requires.unflagged c.requires.spans_for).column
+pub bounds-ranges-x : goal.bounds-ranges-x
+bounds-ranges-x c = (step_fits c.requires.unflagged c.requires.spans_for).column
 
-pub offset_bounds-stops-x : goal.offset_bounds-stops-x
-offset_bounds-stops-x c = record { fits = (step_fits c.requires.unflagged c.requires.spans_for).byte }
+pub offset_bounds-ranges-x-2 : goal.offset_bounds-ranges-x-2
+offset_bounds-ranges-x-2 c = record { fits = (step_fits c.requires.unflagged c.requires.spans_for).byte }
 
-pub bounds-stops-x : goal.bounds-stops-x
-bounds-stops-x c = (step_fits c.requires.unflagged c.requires.spans_for).column
+pub bounds-ranges-x-2 : goal.bounds-ranges-x-2
+bounds-ranges-x-2 c = (step_fits c.requires.unflagged c.requires.spans_for).column
 
 pub returns-then-to-from : goal.returns-then-to-from
 returns-then-to-from c = step-empty c.requires.unflagged c.requires.spans_for c.if-to-from.true
@@ -38,32 +38,32 @@ overflow_add-d-4 c = record { fits = (step_fits c.requires.unflagged c.requires.
 pub overflow_add-d-5 : goal.overflow_add-d-5
 overflow_add-d-5 c = record { fits = (step_fits c.requires.unflagged c.requires.spans_for).cell c.if-to-from.false }
 
-pub column2-requires : goal.column2-requires
-column2-requires c = run c.requires.unflagged c.requires.spans_for c.if-to-from.false (first2 c.requires.unflagged c.if-p-le2.true)
+pub column-requires : goal.column-requires
+column-requires c = (omega arith, run c.requires.unflagged c.requires.spans_for c.if-to-from.false (first2 c.requires.unflagged c.if-p-le2.true))
 
 pub returns-then-p-le2 : goal.returns-then-p-le2
-returns-then-p-le2 c = early c.requires.unflagged c.requires.spans_for c.if-to-from.false (first2 c.requires.unflagged c.if-p-le2.true) c.column2.ensures 60 early_2 (omega (arith, (step_fits c.requires.unflagged c.requires.spans_for).column))
+returns-then-p-le2 c = early c.requires.unflagged c.requires.spans_for c.if-to-from.false (first2 c.requires.unflagged c.if-p-le2.true) c.column.ensures 60 early_2 (omega (arith, (step_fits c.requires.unflagged c.requires.spans_for).column))
 
-pub column4-requires : goal.column4-requires
-column4-requires c = run c.requires.unflagged c.requires.spans_for c.if-to-from.false (first4 c.requires.unflagged c.if-p.true)
+pub column-requires-then-p : goal.column-requires-then-p
+column-requires-then-p c = (omega arith, run c.requires.unflagged c.requires.spans_for c.if-to-from.false (first4 c.requires.unflagged c.if-p.true))
 
 pub returns-then-x-le30 : goal.returns-then-x-le30
-returns-then-x-le30 c = early c.requires.unflagged c.requires.spans_for c.if-to-from.false (first4 c.requires.unflagged c.if-p.true) c.column4.ensures 30 early_4 c.if-x-le30.true
+returns-then-x-le30 c = early c.requires.unflagged c.requires.spans_for c.if-to-from.false (first4 c.requires.unflagged c.if-p.true) c.column-then-p.ensures 30 early_4 c.if-x-le30.true
 
 pub is_small-requires : goal.is_small-requires
 is_small-requires c = run_inside c.requires.unflagged c.requires.spans_for c.if-to-from.false (first4 c.requires.unflagged c.if-p.true) (search rules)
 
 pub returns-then-p : goal.returns-then-p
-returns-then-p c = seen c.requires.unflagged c.requires.spans_for c.if-to-from.false (first4 c.requires.unflagged c.if-p.true) c.column4.ensures _ c.is_small.ensures
+returns-then-p c = seen c.requires.unflagged c.requires.spans_for c.if-to-from.false (first4 c.requires.unflagged c.if-p.true) c.column-then-p.ensures _ c.is_small.ensures
 
-pub column8-requires : goal.column8-requires
-column8-requires c = run c.requires.unflagged c.requires.spans_for c.if-to-from.false (first8 c.requires.unflagged)
+pub column-requires-2 : goal.column-requires-2
+column-requires-2 c = (omega arith, run c.requires.unflagged c.requires.spans_for c.if-to-from.false (first8 c.requires.unflagged))
 
 pub returns-then-x-le20 : goal.returns-then-x-le20
-returns-then-x-le20 c = early c.requires.unflagged c.requires.spans_for c.if-to-from.false (first8 c.requires.unflagged) c.column8.ensures 20 early_8 c.if-x-le20.true
+returns-then-x-le20 c = early c.requires.unflagged c.requires.spans_for c.if-to-from.false (first8 c.requires.unflagged) c.column-2.ensures 20 early_8 c.if-x-le20.true
 
 pub is_small-requires-2 : goal.is_small-requires-2
 is_small-requires-2 c = run_inside c.requires.unflagged c.requires.spans_for c.if-to-from.false (first8 c.requires.unflagged) (search rules)
 
 pub returns : goal.returns
-returns c = seen c.requires.unflagged c.requires.spans_for c.if-to-from.false (first8 c.requires.unflagged) c.column8.ensures _ c.is_small-2.ensures
+returns c = seen c.requires.unflagged c.requires.spans_for c.if-to-from.false (first8 c.requires.unflagged) c.column-2.ensures _ c.is_small-2.ensures

@@ -1,30 +1,16 @@
--- `whole::keep` meets its contract: as many entries as what is told says. Assumes nothing.
-use mathlib.Core.Path.{sym, ap, ◌∙◌}
-use mathlib.Core.List.{◌++◌}
-use Prim.Native.Nat.{ℕ, ◌≤◌}
-use native.Mathlib.Omega.{arith}
-use lib.ListN.{length, take, drop}
-use lib.Seq.{length-take-le}
-use Rattle.pack.proofs.Wholes.{entries_fit, kept_as}
+-- `whole::keep` meets its contract: all numbers are written, or none. Assumes nothing.
+use mathlib.Core.Path.{ap}
+use mathlib.Core.List.{List, ◌++◌}
+use Prim.Native.Nat.{ℕ}
+use lib.ListN.{drop}
+use Rattle.std.proofs.lemmas.Result.{err_from_is_err_and}
+use Rattle.pack.proofs.Wholes.{kept-none, kept-all}
 use Rattle.pack.proofs.whole.keep.Goals as goal
-use Rattle.pack.proofs.whole.keep.Goals.{After-entries}
 
-fit : (c : After-entries) →
-    let args = c.args in
-    (c.entries.result ≤ length args.kept.now) × (c.entries.result ≤ length args.list.now)
-fit c =
-    let args = c.args in
-    let w = entries_fit args.n args.kept.now args.list.now c.told.result c.told.ensures in
-    (omega (arith, w, c.entries.ensures), omega (arith, w, c.entries.ensures))
-
-pub slice_bounds-copy-end : goal.slice_bounds-copy-end
-slice_bounds-copy-end c = sym (length-take-le _ _ (fit (goal.at.slice_bounds-copy-end c).After-entries).0)
-
-pub copy-requires : goal.copy-requires
-copy-requires c = omega (arith, fit (goal.at.copy-requires c).After-entries, length-take-le c.entries.result c.before.args.kept.now (fit (goal.at.copy-requires c).After-entries).0)
+pub returns-in_err-c : goal.returns-in_err-c
+returns-in_err-c c =
+    let p = err_from_is_err_and c.from_residual.result c.from_residual.ensures.1 in rw (p.1, p.2) (kept-none _ _ _ _ c.in_err-c.ensures)
 
 pub returns : goal.returns
 returns c =
-    let args = c.before.args in
-    kept_as args.n args.kept.now args.list.now c.told.result _ _ c.told.ensures c.told-2.ensures
-    (c.copy.ensures ∙ ap (λ (m : ℕ). take m args.kept.now ++ drop (length (take m args.kept.now)) args.list.now) c.entries.ensures)
+    kept-all _ _ _ c.in_ok-c.ensures (ap (λ (z : List ℕ). z ++ drop c.in_ok-c.c c.args.list.now) c.copy_from_slice.ensures.after)

@@ -1,11 +1,6 @@
 -- `walks::walking::walk_each` meets its contract: a string more at each turn. Assumes nothing.
-use Prim.Native.Nat.{◌-◌}
-use lib.ListN.{length}
 use Rattle.walks.proofs.Checking.{Checking}
 use Rattle.walks.proofs.walking.walk_each.Given as goal
 
 abbrev pub invariant-loop-i : goal.invariant-loop-i
 invariant-loop-i l = Checking l.p l.from l.ends l.bytes l.i l.at
-
-abbrev pub decreases-loop-i : goal.decreases-loop-i
-decreases-loop-i l = length l.ends - l.i
