@@ -1,7 +1,7 @@
 -- Laws of the edges of a pack as a list. Assumes nothing.
 --
 --   edge-is          edge i, as the part between its offsets
---   partner-is       the first edge before edge i that is found equal is the earliest that is
+--   equals-is        two of them are the same bytes
 --   cut-edges        the parts between the offsets, one after the other, are the edges
 --   edges-fine, edges-wrong, edges_none    what is told of the edges of a pack
 --   Ending p ends c i    where the first i edges end is known
@@ -15,13 +15,12 @@ use native.Mathlib.Numerals.{add-one}
 use native.Mathlib.Omega.{arith}
 use lib.ListN.{length, get_or, take}
 use lib.Seq.{get_or-take, length-take-le}
-use Rattle.std.specs.Prelude.{Option as Maybe, Some, None, MatchOption, Result, Ok, Err}
-use Rattle.howmany.proofs.Leasts.{least_at, least-none}
+use Rattle.std.specs.Prelude.{Option as Maybe, Some, None, Result, Ok, Err}
 use Rattle.rules.specs.Jobs.{Job}
 use Rattle.rules.specs.Blocks.{job_answer}
 use Rattle.rules.specs.Refusals.Answer.{accepted}
 use Rattle.rules.specs.Packs.{part_of, offset, count_in, edge_in, edges_from, same_bytes}
-use Rattle.rules.specs.Questions.{all_valid, equals, partner}
+use Rattle.rules.specs.Questions.{all_valid, equals}
 use Rattle.job.specs.declared.Refusal.{Refusal}
 use Rattle.job.specs.declared.Refusal.TheVariants.{NotEdge}
 use Rattle.job.proofs.Says.{value_not, value-one}
@@ -39,18 +38,8 @@ module _ (p : List ℕ) where
   edge-of : (c i : ℕ) → i < c → get_or (edges_from p 0 c) i [] ≡ edge_in p i
   edge-of c i l = edges_at p 0 c i i (zero-add i) l
 
-  equals-is : (c i j : ℕ) → i < c → j < c → equals (edges_from p 0 c) i j ≡ same_bytes (edge_in p i) (edge_in p j)
+  pub equals-is : (c i j : ℕ) → i < c → j < c → equals (edges_from p 0 c) i j ≡ same_bytes (edge_in p i) (edge_in p j)
   equals-is c i j l m = rw (edge-of c i l, edge-of c j m)
-
-  pub partner-is : (i : ℕ) (r : Maybe ℕ) → i < count_in p
-      → MatchOption r ((k : ℕ) → 0 ≤ k → k < i → same_bytes (edge_in p i) (edge_in p k) ≡ false)
-      (λ j. (0 ≤ j) × (j < i) × (same_bytes (edge_in p i) (edge_in p j) ≡ true) × ((k : ℕ) → 0 ≤ k → k < j → same_bytes (edge_in p i) (edge_in p k) ≡ false))
-      → MatchOption r (partner (edges_in p) i ≡ i) (λ j. (j < i) × (partner (edges_in p) i ≡ j))
-  unfolding partner
-  partner-is i None l h = least-none (equals (edges_in p) i) i (λ k m. equals-is (count_in p) i k l (omega arith) ∙ h k (omega arith) m)
-  partner-is i (Some j) l h =
-      let e : equals (edges_in p) i j ≡ true = equals-is (count_in p) i j l (omega (arith, h.1)) ∙ h.2 in
-      (h.1, least_at (equals (edges_in p) i) j i (least-none (equals (edges_in p) i) j (λ k m. equals-is (count_in p) i k l (omega (arith, h.1)) ∙ h.3 k (omega arith) m)) e h.1)
 
   -- ---- the edges as parts
 
