@@ -1,6 +1,8 @@
 // One question of ./edges: standard input is its letter, the job block, and the edge or the number; the answer is one line.
 #![tactic(auto)]
 
+ghost use Rattle.std.specs.Prelude.{◌≤◌, length, IfOk};
+
 use job::Refusal;
 use lines::Line;
 use std::fmt::Display;
@@ -63,7 +65,9 @@ fn ask(rt: &impl Print, input: &[u8]) -> io::Result<()> {
 // Reads until the slice is full or the input ends, and answers what was read.
 // kept: as in edgelist and packask, since no contract of a library settles what a read answers; `read_exact` fails at the end of the input, and
 // `read_to_end` needs a heap.
-fn read_full<'a>(from: &mut impl Read, into: &'a mut [u8]) -> io::Result<&'a [u8]> {
+fn read_full<'a>(from: &mut impl Read, into: &'a mut [u8]) -> io::Result<&'a [u8]>
+    ensures { IfOk result (λ read. length read.now ≤ length into.old) }
+{
     let mut got = 0;
     while got < into.len() {
         match from.read(&mut into[got..])? {

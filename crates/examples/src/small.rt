@@ -1,6 +1,7 @@
 // The small public functions: letters, families, jobs, room, parts, counts by rows, writing and walking.
 use crate::{blocks, words};
-use job::Job;
+use job::{Job, Refusal};
+use lines::Unanswered;
 use std::io;
 
 fn letter(rt: &impl Print, b: u8) -> io::Result<()> {
@@ -48,7 +49,7 @@ fn made(rt: &impl Print, block: &[u8]) -> io::Result<()> {
             let (a, b) = (job.a[1], job.b[1]);
             println!(rt;
                 "0 {} {} {} {} {a} {b} ",
-                job::family_of(block),
+                u8::from(job.family),
                 job.n,
                 job.m,
                 job.k
@@ -62,6 +63,7 @@ fn jobs(rt: &impl Print) -> io::Result<()> {
     println!(rt; "jobs: refusal, family, n, m and k, the second pair; m and b raised")?;
     made(rt, &blocks::lettered(3, 2, 5))?;
     made(rt, &blocks::with_t(6, 3, 255))?;
+    made(rt, &blocks::with_t(7, 3, 1))?;
     made(rt, &blocks::lettered(0, 1, 1))?;
     made(rt, &blocks::lettered(2, 1, 2))?;
     made(rt, &blocks::block(7, 1, 0, 2, blocks::TWINS))
@@ -74,6 +76,10 @@ fn room(rt: &impl Print) -> io::Result<()> {
     words::yes(rt, lines::has_room(2, 256, 1))?;
     words::yes(rt, lines::has_room(0, 0, 0))?;
     println!(rt)?;
+    println!(rt;
+        "no room, as a refusal: {}",
+        Refusal::from(Unanswered::NoRoom)
+    )?;
     print!(rt; "all below 5: ")?;
     words::yes(rt, lines::all_below(&[4, 0, 4], 5))?;
     words::yes(rt, lines::all_below(&[4, 5, 4], 5))?;

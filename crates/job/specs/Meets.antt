@@ -9,12 +9,17 @@
 --   IsFencedMeets    7
 --   IsPairedMeets    6 or 7
 --   JobOfMeets       the job of a block, or refusal 1, 2 or 3
+--   FamilyTryFromU8Meets    the family of a number, or refusal 1
+--   U8FromFamilyMeets       the number of a family
+--   U8FromRefusalMeets      the number of a refusal
 use Rattle.std.specs.Prelude.{◌≡◌, ℕ, Bool, List, Result}
 use Rattle.rules.specs.Blocks.{family_of, plain, square, paired, fenced}
 use Rattle.rules.specs.Answers.{written}
 use Rattle.rules.specs.Refusals.Answer.{accepted}
-use Rattle.job.specs.Replies.{BuiltAs}
-use Rattle.job.specs.Made.{made_of}
+use Rattle.job.specs.Replies.{BuiltAs, number_of}
+use Rattle.job.specs.Made.{made_of, family_at}
+use Rattle.job.specs.declared.Family.{Family}
+use Rattle.job.specs.Stands.{family_number}
 use Rattle.job.specs.declared.Job.{Job}
 use Rattle.job.specs.declared.Refusal.{Refusal}
 
@@ -43,3 +48,14 @@ IsPairedMeets family r = r ≡ paired family
 -- "Every job is made from its block of 20 bytes"
 abbrev pub JobOfMeets : List ℕ → Result Job Refusal → Type 0
 JobOfMeets block r = r ≡ made_of block
+
+-- "family not 1 to 7"
+abbrev pub FamilyTryFromU8Meets : ℕ → Result Family Refusal → Type 0
+FamilyTryFromU8Meets number r = r ≡ family_at number
+
+abbrev pub U8FromFamilyMeets : Family → ℕ → Type 0
+U8FromFamilyMeets family r = r ≡ family_number family
+
+-- "Refusal numbers"
+abbrev pub U8FromRefusalMeets : Refusal → ℕ → Type 0
+U8FromRefusalMeets refusal r = r ≡ number_of refusal

@@ -3,9 +3,10 @@
 --   named r        a refusal of document 01, in the code
 --   meant r        the refusal that the code's stands for
 --   number_of r    "Refusal numbers"
+--   shown r        that number as a program prints it
 --   reply a        an answer of document 01, in the code
 --   BuiltAs w r after    a write's reply and the output's bytes after it
-use Rattle.std.specs.Prelude.{◌≡◌, ℕ, List, Result, Ok, Err}
+use Rattle.std.specs.Prelude.{◌≡◌, ℕ, List, Result, Ok, Err, decimal}
 use Rattle.rules.specs.Refusals as rules
 use Rattle.rules.specs.Refusals.{Answer}
 use Rattle.rules.specs.Refusals.Refusal.{form, size, twin, over, not-an-edge, beyond, room, bad-pack, no-such-edge, many, kind}
@@ -52,6 +53,10 @@ number_of BadPack = 8
 number_of NoSuchEdge = 9
 number_of Many = 10
 number_of Kind = 11
+
+-- "A refusal .. prints one line, as `refused 4`"
+abbrev pub shown : Refusal → List ℕ
+shown r = decimal (number_of r)
 
 -- "The answer is a count or a refusal number, never both."
 abbrev pub reply : {A : Type 0} → Answer A → Result A Refusal

@@ -1,12 +1,12 @@
 // Jobs made from their block of 20 bytes (document 01, "Job block"), and the answers that every call gives.
 #![tactic(auto)]
 
-ghost use Rattle.std.specs.Prelude.{◌≡◌, ◌==◌};
+ghost use Rattle.std.specs.Prelude.{◌≡◌, ◌==◌, Some};
 ghost use Rattle.std.specs.List.{list_all};
 ghost use Rattle.rules.specs.Blocks.{formed, sized, sized_lettered, sized_directed, small, pairs_in, is_in, twins};
-ghost use Rattle.job.specs.Made.{raised, pair_by, in_range, Whole, held_by, family_at};
-ghost use Rattle.job.specs.Replies.{number_of};
-ghost use Rattle.job.specs.Meets.{PutMeets, WideMeets, FamilyOfMeets, IsPlainMeets, IsSquareMeets, IsFencedMeets, IsPairedMeets, JobOfMeets};
+ghost use Rattle.job.specs.Made.{raised, pair_by, in_range, Whole, held_by};
+ghost use Rattle.job.specs.Replies.{shown};
+ghost use Rattle.job.specs.Meets.{PutMeets, WideMeets, FamilyOfMeets, IsPlainMeets, IsSquareMeets, IsFencedMeets, IsPairedMeets, JobOfMeets, FamilyTryFromU8Meets, U8FromFamilyMeets, U8FromRefusalMeets};
 
 use std::fmt;
 
@@ -42,7 +42,7 @@ pub enum Family {
 impl TryFrom<u8> for Family {
     type Error = Refusal;
 
-    ghost try_from_gives = { λ number r. r ≡ family_at number };
+    ghost try_from_gives = { λ number r. FamilyTryFromU8Meets number r };
 
     fn try_from(number: u8) -> Result<Family, Refusal> {
         match number {
@@ -54,6 +54,23 @@ impl TryFrom<u8> for Family {
             6 => Ok(Family::Open),
             7 => Ok(Family::Fenced),
             _ => Err(Refusal::Form),
+        }
+    }
+}
+
+// The first byte of a family's blocks.
+impl From<Family> for u8 {
+    ghost from_gives = { λ family number. U8FromFamilyMeets family number };
+
+    fn from(family: Family) -> u8 {
+        match family {
+            Family::NorthEast => 1,
+            Family::Dyck => 2,
+            Family::Delannoy => 3,
+            Family::Schroder => 4,
+            Family::Motzkin => 5,
+            Family::Open => 6,
+            Family::Fenced => 7,
         }
     }
 }
@@ -87,7 +104,7 @@ pub enum Refusal {
 
 // A refusal's number is all that C and the listing are told of it.
 impl From<Refusal> for u8 {
-    ghost from_gives = { λ refusal number. number ≡ number_of refusal };
+    ghost from_gives = { λ refusal number. U8FromRefusalMeets refusal number };
 
     fn from(refusal: Refusal) -> u8 {
         match refusal {
@@ -106,7 +123,10 @@ impl From<Refusal> for u8 {
     }
 }
 
+// A program prints a refusal's number.
 impl fmt::Display for Refusal {
+    ghost output = { λ refusal. Some (shown refusal) };
+
     fn fmt<W: fmt::Write>(&self, f: &mut fmt::Formatter<W>) -> fmt::Result {
         write!(f, "{}", u8::from(*self))
     }

@@ -4,9 +4,7 @@
 
 ghost use Rattle.std.specs.Prelude.{◌≡◌, ltb};
 ghost use Rattle.std.specs.List.{list_all};
-ghost use Rattle.lines.specs.declared.Unanswered.TheVariants.{Refused};
-ghost use Rattle.lines.specs.Lines.{refusal_for};
-ghost use Rattle.lines.specs.Meets.{HasRoomMeets, AllBelowMeets, PartMeets};
+ghost use Rattle.lines.specs.Meets.{HasRoomMeets, AllBelowMeets, PartMeets, UnansweredFromRefusalMeets, RefusalFromUnansweredMeets};
 
 use job::Refusal;
 
@@ -18,7 +16,7 @@ pub enum Unanswered {
 }
 
 impl From<Refusal> for Unanswered {
-    ghost from_gives = { λ refusal why. why ≡ Refused refusal };
+    ghost from_gives = { λ refusal why. UnansweredFromRefusalMeets refusal why };
 
     fn from(why: Refusal) -> Unanswered {
         Unanswered::Refused(why)
@@ -27,7 +25,7 @@ impl From<Refusal> for Unanswered {
 
 // Where room is what a caller has to bring, none is refusal 7.
 impl From<Unanswered> for Refusal {
-    ghost from_gives = { λ why refusal. refusal ≡ refusal_for why };
+    ghost from_gives = { λ why refusal. RefusalFromUnansweredMeets why refusal };
 
     fn from(why: Unanswered) -> Refusal {
         match why {

@@ -6,6 +6,8 @@
 --   EdgeRefusalMeets    the refusal number of that question
 --   RepeatMeets         the first edge that equals an earlier one, with the earliest, or none
 --   NumberAllMeets      the numbers of all edges of a pack, at the front of a list
+--   FaultFromRefusalMeets      a refusal, as why the edges of a pack have no numbers
+--   FaultFromUnansweredMeets   why a list isn't answered, as that: no room is refusal 7
 use Rattle.std.specs.Prelude.{◌≡◌, List, ℕ, Option, Result}
 use Rattle.std.specs.Borrow.{Bor}
 use Rattle.rules.specs.Questions.{part_answer, repeat_answer}
@@ -14,7 +16,10 @@ use Rattle.job.specs.declared.Refusal.{Refusal}
 use Rattle.job.specs.Parts.{refusal_in}
 use Rattle.pack.specs.Parts.{EdgeIs}
 use Rattle.pack.specs.Whole.{ListedAs}
+use Rattle.lines.specs.declared.Unanswered.{Unanswered}
+use Rattle.lines.specs.Lines.{refusal_for}
 use Rattle.pack.specs.declared.Fault.{Fault}
+use Rattle.pack.specs.declared.Fault.TheVariants.{Refused}
 use Rattle.pack.specs.Replies.{reply_by, placed, paired}
 
 -- "Edge i of a pack", told by where it begins and ends
@@ -36,3 +41,10 @@ RepeatMeets pack r = r ≡ reply_by paired (repeat_answer pack)
 -- "We want one call from a pack to a lent list of 64-bit numbers."
 abbrev pub NumberAllMeets : List ℕ → List ℕ → Result ℕ Fault → List ℕ → Type 0
 NumberAllMeets pack list r list-after = ListedAs (numbers_answer pack list) r list-after
+
+abbrev pub FaultFromRefusalMeets : Refusal → Fault → Type 0
+FaultFromRefusalMeets why r = r ≡ Refused why
+
+-- "then 7 for a short list"
+abbrev pub FaultFromUnansweredMeets : Unanswered → Fault → Type 0
+FaultFromUnansweredMeets why r = r ≡ Refused (refusal_for why)

@@ -2,10 +2,7 @@
 // numbers of all edges.
 #![tactic(auto)]
 
-ghost use Rattle.std.specs.Prelude.{◌≡◌};
-ghost use Rattle.lines.specs.Lines.{refusal_for};
-ghost use Rattle.pack.specs.declared.Fault.TheVariants.{Refused};
-ghost use Rattle.pack.specs.Meets.{PartMeets, EdgeMeets, EdgeRefusalMeets, RepeatMeets, NumberAllMeets};
+ghost use Rattle.pack.specs.Meets.{PartMeets, EdgeMeets, EdgeRefusalMeets, RepeatMeets, NumberAllMeets, FaultFromRefusalMeets, FaultFromUnansweredMeets};
 
 mod layout;
 mod refusals;
@@ -45,7 +42,7 @@ pub enum Fault {
 }
 
 impl From<Refusal> for Fault {
-    ghost from_gives = { λ why fault. fault ≡ Refused why };
+    ghost from_gives = { λ why fault. FaultFromRefusalMeets why fault };
 
     fn from(why: Refusal) -> Fault {
         Fault::Refused(why)
@@ -54,7 +51,7 @@ impl From<Refusal> for Fault {
 
 // Where there is no room for a number of each edge, that is refusal 7.
 impl From<Unanswered> for Fault {
-    ghost from_gives = { λ why fault. fault ≡ Refused (refusal_for why) };
+    ghost from_gives = { λ why fault. FaultFromUnansweredMeets why fault };
 
     fn from(why: Unanswered) -> Fault {
         Fault::Refused(Refusal::from(why))

@@ -1,6 +1,8 @@
 // What ./edges asks of a pack: standard input is the pack; the answer is a line for each edge, its number and the edge.
 #![tactic(auto)]
 
+ghost use Rattle.std.specs.Prelude.{◌≤◌, length, IfOk};
+
 use pack::{Fault, Pack};
 use std::io;
 use std::io::Read;
@@ -36,7 +38,9 @@ fn numbers(rt: &impl Print, bytes: &[u8]) -> io::Result<()> {
 // Reads until the slice is full or the input ends, and answers what was read.
 // kept: as in edgelist and edgeask, since no contract of a library settles what a read answers; `read_exact` fails at the end of the input, and
 // `read_to_end` needs a heap.
-fn read_full<'a>(from: &mut impl Read, into: &'a mut [u8]) -> io::Result<&'a [u8]> {
+fn read_full<'a>(from: &mut impl Read, into: &'a mut [u8]) -> io::Result<&'a [u8]>
+    ensures { IfOk result (λ read. length read.now ≤ length into.old) }
+{
     let mut got = 0;
     while got < into.len() {
         match from.read(&mut into[got..])? {

@@ -23,6 +23,7 @@ use Rattle.listing.specs.Meets as listing
 use Rattle.edges.specs.Meets as edges
 use Rattle.std.specs.Prelude.{Option, Result}
 use Rattle.job.specs.declared.Job.{Job}
+use Rattle.job.specs.declared.Family.{Family}
 use Rattle.job.specs.declared.Refusal.{Refusal}
 use Rattle.lines.specs.declared.Unanswered.{Unanswered}
 use Rattle.pack.specs.declared.Fault.{Fault}
@@ -61,6 +62,18 @@ pub job-of-one : (block : List ℕ) (r s : Result Job Refusal) → job.JobOfMeet
     → r ≡ s
 job-of-one block r s p q = equal_one _ r s p q
 
+pub job-family-try-from-u8-one : (number : ℕ) (r s : Result Family Refusal) → job.FamilyTryFromU8Meets number r → job.FamilyTryFromU8Meets number s
+    → r ≡ s
+job-family-try-from-u8-one number r s p q = equal_one _ r s p q
+
+pub job-u8-from-family-one : (family : Family) (r s : ℕ) → job.U8FromFamilyMeets family r → job.U8FromFamilyMeets family s
+    → r ≡ s
+job-u8-from-family-one family r s p q = equal_one _ r s p q
+
+pub job-u8-from-refusal-one : (refusal : Refusal) (r s : ℕ) → job.U8FromRefusalMeets refusal r → job.U8FromRefusalMeets refusal s
+    → r ≡ s
+job-u8-from-refusal-one refusal r s p q = equal_one _ r s p q
+
 pub lines-has-room-one : (many : ℕ) (steps : ℕ) (ends : ℕ) (r s : Bool) → lines.HasRoomMeets many steps ends r → lines.HasRoomMeets many steps ends s
     → r ≡ s
 lines-has-room-one many steps ends r s p q = equal_one _ r s p q
@@ -72,6 +85,14 @@ lines-all-below-one numbers count r s p q = equal_one _ r s p q
 pub lines-part-one : (bytes : Bor (List ℕ)) (from : ℕ) (to : ℕ) (r s : Bor (List ℕ)) → lines.PartMeets bytes from to r → lines.PartMeets bytes from to s
     → Alike r s
 lines-part-one bytes from to r s p q = part-one _ _ _ r s p q
+
+pub lines-unanswered-from-refusal-one : (refusal : Refusal) (r s : Unanswered) → lines.UnansweredFromRefusalMeets refusal r → lines.UnansweredFromRefusalMeets refusal s
+    → r ≡ s
+lines-unanswered-from-refusal-one refusal r s p q = equal_one _ r s p q
+
+pub lines-refusal-from-unanswered-one : (why : Unanswered) (r s : Refusal) → lines.RefusalFromUnansweredMeets why r → lines.RefusalFromUnansweredMeets why s
+    → r ≡ s
+lines-refusal-from-unanswered-one why r s p q = equal_one _ r s p q
 
 pub letters_ordinal_of-one : (lettered : Bool) (b : ℕ) (r s : ℕ) → letters.OrdinalOfMeets lettered b r → letters.OrdinalOfMeets lettered b s
     → r ≡ s
@@ -184,6 +205,14 @@ pack-repeat-one bytes r s p q = equal_one _ r s p q
 pub pack-number-all-one : (bytes : List ℕ) (list : List ℕ) (r s : Result ℕ Fault) (list-after list-next : List ℕ) → pack.NumberAllMeets bytes list r list-after → pack.NumberAllMeets bytes list s list-next
     → (r ≡ s) × (list-after ≡ list-next)
 pack-number-all-one bytes list r s list-after list-next p q = listed-one _ r s _ _ p q
+
+pub pack-fault-from-refusal-one : (why : Refusal) (r s : Fault) → pack.FaultFromRefusalMeets why r → pack.FaultFromRefusalMeets why s
+    → r ≡ s
+pack-fault-from-refusal-one why r s p q = equal_one _ r s p q
+
+pub pack-fault-from-unanswered-one : (why : Unanswered) (r s : Fault) → pack.FaultFromUnansweredMeets why r → pack.FaultFromUnansweredMeets why s
+    → r ≡ s
+pack-fault-from-unanswered-one why r s p q = equal_one _ r s p q
 
 pub packing_write_one : (block : List ℕ) (numbers : List ℕ) (out : List ℕ) (r s : Result ℕ Refusal) (out-after out-next : List ℕ) → packing.WriteMeets block numbers out r out-after → packing.WriteMeets block numbers out s out-next
     → (r ≡ s) × (out-after ≡ out-next)
