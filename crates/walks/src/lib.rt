@@ -16,7 +16,7 @@ pub fn walk(block: &[u8], edge: &[u8]) -> Result<Option<usize>, Refusal>
     ensures { WalkMeets block.now edge.now result }
 {
     let job = Job::of(block)?;
-    Ok(walk_one(&paces_of(job), edge))
+    Ok(walk_one(paces_of(job), edge))
 }
 
 // The same of the parts of one lent slice, by where the first begins and each ends: the first that isn't valid, and the place where it goes
@@ -30,5 +30,5 @@ pub fn walk_all(
     ensures { WalkAllMeets block.now bytes.now from ends.now result }
 {
     let paces = paces_of(Job::of(block)?);
-    Ok(walk_each(&paces, bytes, from, ends))
+    Ok(walk_each(paces, bytes, from, ends))
 }

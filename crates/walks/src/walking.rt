@@ -6,9 +6,10 @@ use crate::paces::Paces;
 use job::Job;
 
 // Where a string goes wrong, if it does: the first step that breaks a rule, or the length if it is only the end that isn't reached.
-pub(crate) fn walk_one(p: &Paces, edge: &[u8]) -> Option<usize>
-    requires { Paced p.now }
-    ensures { StopsAs p.now edge.now result }
+// The paces by value: behind a reference their rules are looked at anew at each step, and a step takes a quarter more instructions.
+pub(crate) fn walk_one(p: Paces, edge: &[u8]) -> Option<usize>
+    requires { Paced p }
+    ensures { StopsAs p edge.now result }
 {
     let mut x: usize = 0;
     let mut h = Job::GROUND;
@@ -37,13 +38,13 @@ pub(crate) fn walk_one(p: &Paces, edge: &[u8]) -> Option<usize>
 
 // The first of the strings that goes wrong, and where.
 pub(crate) fn walk_each(
-    p: &Paces,
+    p: Paces,
     bytes: &[u8],
     from: usize,
     ends: &[usize],
 ) -> Option<(usize, usize)>
-    requires { Paced p.now }
-    ensures { ChecksAs p.now (cut_from from ends.now bytes.now) result }
+    requires { Paced p }
+    ensures { ChecksAs p (cut_from from ends.now bytes.now) result }
 {
     let mut at = from;
     for (i, &end) in ends.iter().enumerate() {
