@@ -1,7 +1,7 @@
 -- What each public function answers, and every lent byte after it, is settled by its contract: two results that meet the relation of the
 -- function (`specs/Meets` of its crate, which its `ensures` is) are equal, and so are the bytes. One theorem for each function, by name.
 -- Assumes nothing.
-use mathlib.Core.Path.{◌≡◌}
+use mathlib.Core.Path.{◌≡◌, sym, ◌∙◌}
 use mathlib.Core.Bool.{Bool}
 use mathlib.Core.List.{List}
 use Prim.Native.Nat.{ℕ}
@@ -28,7 +28,7 @@ use Rattle.job.specs.declared.Refusal.{Refusal}
 use Rattle.lines.specs.declared.Unanswered.{Unanswered}
 use Rattle.pack.specs.declared.Fault.{Fault}
 use Rattle.questions.specs.declared.Which.{Which}
-use Rattle.promises.proofs.One.{Alike, building_one, built-one, edge-one, equal_one, handed_one, listed-one, numbering-one, part-one, ranked-one, seen-dip-one, seen-numbers-one, seen_one, seen-part-one, seen-repeat-one, seen-second-one, seen_write_one, wrote_one}
+use Rattle.promises.proofs.One.{Alike, building_one, built-one, edge-one, equal_one, handed_one, listed-one, numbering-one, part-one, ranked-one, refusal_one, seen-dip-one, seen-numbers-one, seen_one, seen-part-one, seen-repeat-one, seen-second-one, seen_write_one, wrote_one}
 
 pub job-put-one : (edge : List ℕ) (out : List ℕ) (r s : Result ℕ Refusal) (out-after out-next : List ℕ) → job.PutMeets edge out r out-after → job.PutMeets edge out s out-next
     → (r ≡ s) × (out-after ≡ out-next)
@@ -73,6 +73,10 @@ job-u8-from-family-one family r s p q = equal_one _ r s p q
 pub job-u8-from-refusal-one : (refusal : Refusal) (r s : ℕ) → job.U8FromRefusalMeets refusal r → job.U8FromRefusalMeets refusal s
     → r ≡ s
 job-u8-from-refusal-one refusal r s p q = equal_one _ r s p q
+
+-- and no two refusals have one number: whoever is told the number knows the refusal
+pub job-u8-from-refusal-apart : (r s : Refusal) (number : ℕ) → job.U8FromRefusalMeets r number → job.U8FromRefusalMeets s number → r ≡ s
+job-u8-from-refusal-apart r s number p q = refusal_one r s (sym p ∙ q)
 
 pub lines-has-room-one : (many : ℕ) (steps : ℕ) (ends : ℕ) (r s : Bool) → lines.HasRoomMeets many steps ends r → lines.HasRoomMeets many steps ends s
     → r ≡ s
